@@ -1,0 +1,16 @@
+-- What is told of each refusal of a pool: its number, and the layer of the scheduler in which it arises.
+use Prim.Native.Nat.{ℕ}
+use Rattle.pools.specs.declared.fault.Layer.{Layer}
+use Rattle.pools.specs.declared.fault.Layer.the-variants.{Pool}
+use Rattle.pools.specs.declared.fault.PoolFault.{PoolFault}
+use Rattle.pools.specs.declared.fault.PoolFault.the-variants.{BadLayer, MoreThanUsed, InUse, DoesNotFit}
+
+pub record Telling : Type 0 where
+  pub number : ℕ
+  pub layer : Layer
+
+abbrev pub told : PoolFault → Telling
+told BadLayer = record { number = 9; layer = Pool }
+told MoreThanUsed = record { number = 28; layer = Pool }
+told InUse = record { number = 29; layer = Pool }
+told DoesNotFit = record { number = 30; layer = Pool }

@@ -1,0 +1,5 @@
+pub mod Totals
+pub mod Ranges
+pub mod Faults
+pub mod Terms
+pub mod Layers

@@ -1,0 +1,48 @@
+// Why a pool refuses, and which layer of the scheduler a refusal comes from.
+ghost use mathlib.Core.Path.{_≡_};
+ghost use Rattle.pools.specs.Faults.{told};
+
+// The layer of the scheduler in which a fault arises.
+#[derive(Clone, Copy, PartialEq, Eq, Debug)]
+pub enum Layer {
+    Reader,
+    Books,
+    Pool,
+}
+
+#[derive(Clone, Copy, PartialEq, Eq, Debug)]
+pub enum PoolFault {
+    // A layer's numbers are out of range, or a reserve does not fit below.
+    BadLayer,
+    // More is given back than is in use.
+    MoreThanUsed,
+    // The pool has amounts in use, and a new one is wanted.
+    InUse,
+    // The used total plus the demand is not permitted.
+    DoesNotFit,
+}
+
+impl PoolFault {
+    // The number by which the refusal is told.
+    pub fn number(self) -> u8
+        ensures as_told { λ r. ⌜ r ≡ told self .number ⌝ }
+    {
+        match self {
+            PoolFault::BadLayer => 9,
+            PoolFault::MoreThanUsed => 28,
+            PoolFault::InUse => 29,
+            PoolFault::DoesNotFit => 30,
+        }
+    }
+
+    pub fn layer(self) -> Layer
+        ensures as_told { λ r. ⌜ r ≡ told self .layer ⌝ }
+    {
+        match self {
+            PoolFault::BadLayer => Layer::Pool,
+            PoolFault::MoreThanUsed => Layer::Pool,
+            PoolFault::InUse => Layer::Pool,
+            PoolFault::DoesNotFit => Layer::Pool,
+        }
+    }
+}
