@@ -58,3 +58,6 @@ module _ (p : Total → Bool) (weights : Total) (limit : ℕ) where
   up-to-downward down t u w h =
       let both = and-parts (p u) _ h in
       and-from _ _ (down t u w (both .0)) (le-leb _ _ (omega (arith, load-grows weights w, leb-true _ _ (both .1))))
+
+  pub up-to-bounded : (bound : Total) → Bounded p bound → Bounded (up-to p weights limit) bound
+  up-to-bounded bound below t h = below t (and-parts (p t) _ h .0)

@@ -1,2 +1,3 @@
 pub mod TotalLaws
+pub mod TermLaws
 pub mod LayerLaws

@@ -8,7 +8,7 @@ ghost use Rattle.pools.specs.Totals.{total, nothing, largest, plus, minus, wit
 pub const SUPPLIES: usize = 4;
 
 // One amount for each supply: a demand, a capacity, a reserve or what is in use.
-#[derive(Clone, Copy, PartialEq, Eq, Debug)]
+#[derive(Clone, Copy)]
 pub struct Amounts {
     pub each: [u32; SUPPLIES],
 }
@@ -43,9 +43,7 @@ impl Amounts {
         let b = self.each[1].checked_add(other.each[1])?;
         let c = self.each[2].checked_add(other.each[2])?;
         let d = self.each[3].checked_add(other.each[3])?;
-        Some(Amounts {
-            each: [a, b, c, d],
-        })
+        Some(Amounts { each: [a, b, c, d] })
     }
 
     // The difference, or none where some amount is smaller than that of `other`.
@@ -56,8 +54,6 @@ impl Amounts {
         let b = self.each[1].checked_sub(other.each[1])?;
         let c = self.each[2].checked_sub(other.each[2])?;
         let d = self.each[3].checked_sub(other.each[3])?;
-        Some(Amounts {
-            each: [a, b, c, d],
-        })
+        Some(Amounts { each: [a, b, c, d] })
     }
 }

@@ -1,0 +1,2 @@
+// The figures worked by hand in docs/RULES.md, proved of the code that answers them.
+pub mod pool_figures;
