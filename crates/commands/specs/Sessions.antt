@@ -1,4 +1,5 @@
 -- The desk by what it knows of its site, and what each command does.
+use mathlib.Core.Path.{_≡_}
 use mathlib.Core.Bool.{Bool, true, false, cond}
 use Prim.Native.Nat.{ℕ}
 use Rattle.std.specs.declared.option.Option.{Option}
@@ -37,6 +38,11 @@ used-now (Some k) = k .used
 abbrev pub capacity-now : Option Known → Total
 capacity-now None = nothing
 capacity-now (Some k) = k .terms .capacity
+
+-- what is in use at the site is permitted
+abbrev pub Permitted-use : Option Known → Type 0
+Permitted-use None = Unit {0}
+Permitted-use (Some k) = k .terms .permitted (k .used) ≡ true
 
 -- how many layers can still be laid over the site
 abbrev pub free-places : {S : Type 0} → Places S → Session S → ℕ

@@ -5,7 +5,7 @@ ghost use Rattle.std.specs.Options.{mapped};
 ghost use Rattle.std.specs.declared.option.Option.the-variants.{None};
 ghost use Rattle.pools.specs.Totals.{total};
 ghost use Rattle.commands.specs.declared.command.Command.the-variants.{Lay};
-ghost use Rattle.commands.specs.Sessions.{known, free-places, reply-to, known-after, refuses, used-now, capacity-now};
+ghost use Rattle.commands.specs.Sessions.{known, free-places, Permitted-use, reply-to, known-after, refuses, used-now, capacity-now};
 use crate::command::Command;
 use crate::command::Reply;
 use crate::layer::NewLayer;
@@ -28,6 +28,7 @@ pub struct Status {
 impl<S: Stack + Drop> Session<S> {
     pub fn new() -> Session<S>
         ensures starts_without_a_site { λ r. ⌜ known S·Pool r ≡ None ⌝ }
+        ensures starts_with_permitted_use { λ r. ⌜ Permitted-use (known S·Pool r) ⌝ }
     {
         Session { site: None }
     }
@@ -35,6 +36,7 @@ impl<S: Stack + Drop> Session<S> {
     pub fn obey(&mut self, command: Command) -> Reply
         ensures replies_by_the_rules { λ r. ⌜ r ≡ reply-to (free-places S·Stack (now (self .entry))) (known S·Pool (now (self .entry))) command ⌝ }
         ensures moves_by_the_rules { λ r. ⌜ known S·Pool (now (self .exit)) ≡ known-after (known S·Pool (now (self .entry))) command r ⌝ }
+        ensures use_stays_permitted { λ r. ⌜ (Permitted-use (known S·Pool (now (self .entry))) → Permitted-use (known S·Pool (now (self .exit)))) ⌝ }
         ensures refusal_changes_nothing { λ r. ⌜ (refuses r ≡ true → now (self .exit) ≡ now (self .entry)) ⌝ }
     {
         match command {
@@ -98,6 +100,7 @@ impl<S: Stack + Drop> Session<S> {
     fn lay(&mut self, layer: NewLayer) -> Reply
         ensures replies_by_the_rules { λ r. ⌜ r ≡ reply-to (free-places S·Stack (now (self .entry))) (known S·Pool (now (self .entry))) (Lay layer) ⌝ }
         ensures moves_by_the_rules { λ r. ⌜ known S·Pool (now (self .exit)) ≡ known-after (known S·Pool (now (self .entry))) (Lay layer) r ⌝ }
+        ensures use_stays_permitted { λ r. ⌜ (Permitted-use (known S·Pool (now (self .entry))) → Permitted-use (known S·Pool (now (self .exit)))) ⌝ }
         ensures refusal_changes_nothing { λ r. ⌜ (refuses r ≡ true → now (self .exit) ≡ now (self .entry)) ⌝ }
     {
         let Some(site) = self.site.take() else {

@@ -37,6 +37,7 @@ pub trait Pool {
         ensures taken_exactly_when_it_fits { λ r. ⌜ r ≡ judged (admits (terms (now (self .entry))) (used (now (self .entry))) (total demand)) DoesNotFit ⌝ }
         ensures adds_the_demand { λ r. ⌜ used (now (self .exit)) ≡ cond (isOk r) (plus (used (now (self .entry))) (total demand)) (used (now (self .entry))) ⌝ }
         ensures keeps_its_terms { λ r. ⌜ terms (now (self .exit)) ≡ terms (now (self .entry)) ⌝ }
+        ensures use_stays_permitted { λ r. ⌜ (terms (now (self .entry)) .permitted (used (now (self .entry))) ≡ true → terms (now (self .exit)) .permitted (used (now (self .exit))) ≡ true) ⌝ }
         ensures refusal_changes_nothing { λ r. ⌜ (isOk r ≡ false → now (self .exit) ≡ now (self .entry)) ⌝ };
 
     // Subtracts the demand from what is in use, where that much is.
@@ -44,6 +45,7 @@ pub trait Pool {
         ensures given_exactly_when_used { λ r. ⌜ r ≡ judged (within (total demand) (used (now (self .entry)))) MoreThanUsed ⌝ }
         ensures subtracts_the_demand { λ r. ⌜ used (now (self .exit)) ≡ cond (isOk r) (minus (used (now (self .entry))) (total demand)) (used (now (self .entry))) ⌝ }
         ensures keeps_its_terms { λ r. ⌜ terms (now (self .exit)) ≡ terms (now (self .entry)) ⌝ }
+        ensures use_stays_permitted { λ r. ⌜ (terms (now (self .entry)) .permitted (used (now (self .entry))) ≡ true → terms (now (self .exit)) .permitted (used (now (self .exit))) ≡ true) ⌝ }
         ensures refusal_changes_nothing { λ r. ⌜ (isOk r ≡ false → now (self .exit) ≡ now (self .entry)) ⌝ };
 
     // Refuses a pool with amounts in use. Whatever settles on a new pool, a layer or the books, asks this first.
