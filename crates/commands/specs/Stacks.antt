@@ -1,14 +1,13 @@
 -- What it means to lay a layer over a stack.
-use mathlib.Core.Bool.{Bool, _&&_, cond}
+use mathlib.Core.Bool.{Bool}
 use Prim.Native.Nat.{ℕ, zero, suc}
-use lib.Dec.{leb}
 use Rattle.std.specs.declared.option.Option.{Option}
 use Rattle.std.specs.declared.option.Option.the-variants.{Some, None}
 use Rattle.std.specs.declared.result.Result.{Result}
 use Rattle.std.specs.declared.result.Result.the-variants.{Ok, Err}
 use Rattle.std.specs.Options.{mapped}
 use Rattle.pools.specs.Totals.{Total, four, total, nothing, within}
-use Rattle.pools.specs.Ranges.{heaviest, highest}
+use Rattle.pools.specs.Ranges.{in-range}
 use Rattle.pools.specs.Terms.{Terms, admits}
 use Rattle.pools.specs.Layers.{reserve-terms, limit-terms, layer-fault}
 use Rattle.commands.specs.declared.layer.NewLayer.{NewLayer}
@@ -25,7 +24,7 @@ laid m (LoadLimit r) = limit-terms m (four (r .weights)) (r .limit)
 -- whether the layer's numbers are good beside what is used below
 abbrev pub numbers-good : Terms → Total → NewLayer → Bool
 numbers-good m used (Reserve held) = admits m used (total held)
-numbers-good m used (LoadLimit r) = within (four (r .weights)) heaviest && leb (r .limit) highest
+numbers-good m used (LoadLimit r) = in-range (four (r .weights)) (r .limit)
 
 -- what stands in the way of a layer over a pool
 abbrev pub pool-obstacle : Terms → Total → NewLayer → Option Obstacle

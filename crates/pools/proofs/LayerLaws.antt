@@ -1,14 +1,14 @@
 -- The laws of a pool, carried from the pool below to a layer over it. `p` is what is permitted below.
-use mathlib.Core.Path.{_≡_, sym, _∙_}
-use mathlib.Core.Bool.{Bool, true, false, cond, _||_}
+use mathlib.Core.Path.{_≡_, sym}
+use mathlib.Core.Bool.{Bool, true, false, _||_}
 use mathlib.Core.Logic.{⊎-elim}
 use Prim.Native.Nat.{ℕ}
 use native.Mathlib.Omega.{arith}
 use native.Mathlib.Nat.{mul-zero}
 use Rattle.std.proofs.shelf.Tests.{and-from, and-parts, or-cases, or-left, or-right, leb-true, le-leb, cases-bool}
-use Rattle.pools.specs.Totals.{Total, nothing, largest, plus, minus, within, Within}
+use Rattle.pools.specs.Totals.{Total, nothing, largest, plus, within, Within}
 use Rattle.pools.specs.Layers.{beside, up-to}
-use Rattle.pools.proofs.TotalLaws.{test-within, within-test, within-trans, nothing-within, within-sum, sum-grows, rest-within, load-grows}
+use Rattle.pools.proofs.TotalLaws.{test-within, within-test, within-trans, nothing-within, within-sum, sum-grows, load-grows}
 
 -- what is in no supply larger than a permitted total is permitted
 abbrev pub Downward : (Total → Bool) → Type 0
@@ -17,11 +17,6 @@ Downward p = (t u : Total) → Within t u → p u ≡ true → p t ≡ true
 -- no permitted total is larger than the bound
 abbrev pub Bounded : (Total → Bool) → Total → Type 0
 Bounded p bound = (t : Total) → p t ≡ true → Within t bound
-
--- what is given back leaves a permitted total
-pub rest-permitted : {p q : Total → Bool} {u v : Total} (given : Bool) (demand : Total) → Downward p → q ≡ p → v ≡ cond given (minus u demand) u → p u ≡ true → q v ≡ true
-rest-permitted {p} {q} {u} {v} given demand down same e h =
-    (λ i. same i (e i)) ∙ down _ u (rest-within given u demand) h
 
 module _ (p : Total → Bool) (held : Total) where
   -- what a reserve permits is zero, or permitted below with the reserve
@@ -39,13 +34,6 @@ module _ (p : Total → Bool) (held : Total) where
       beside-cases t
       (λ z. within-trans z (nothing-within bound))
       (λ q. within-trans (within-sum t held) (below _ q)) h
-
-  -- what the reserve permits is permitted below
-  pub beside-below : p nothing ≡ true → Downward p → (t : Total) → beside p held t ≡ true → p t ≡ true
-  beside-below zero down t h =
-      beside-cases t
-      (λ z. down _ _ z zero)
-      (λ q. down _ _ (within-sum t held) q) h
 
   -- what is not zero and does not have 32 bits with the reserve is not permitted
   pub beside-too-large : Bounded p largest → (t : Total) → (Within t nothing → ⊥) → (Within (plus t held) largest → ⊥) → false ≡ beside p held t

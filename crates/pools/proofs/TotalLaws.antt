@@ -1,11 +1,11 @@
 -- Laws of totals: how sums, comparisons and loads go together.
 use mathlib.Core.Path.{_≡_}
-use mathlib.Core.Bool.{Bool, true, false, cond}
+use mathlib.Core.Bool.{true}
 use Prim.Native.Nat.{ℕ, _*_, _^_, _≤_}
 use native.Mathlib.Nat.{mul-le-mul-left}
 use native.Mathlib.Omega.{arith}
 use Rattle.std.proofs.shelf.Ways.{tells}
-use Rattle.pools.specs.Totals.{Total, alike, nothing, largest, in-each, plus, minus, within, Within, load}
+use Rattle.pools.specs.Totals.{Total, alike, nothing, largest, in-each, plus, within, Within, load}
 use Rattle.pools.specs.Ranges.{heaviest}
 
 -- the test and the fact
@@ -32,11 +32,7 @@ second-within a b = record { w0 = omega arith; w1 = omega arith; w2 = omega arit
 
 -- a sum without its first part
 pub sum-without : (a b c : Total) → Within (plus b c) (plus (plus a b) c)
-sum-without a b c = record { w0 = omega arith; w1 = omega arith; w2 = omega arith; w3 = omega arith }
-
-pub rest-within : (given : Bool) (a b : Total) → Within (cond given (minus a b) a) a
-rest-within true a b = record { w0 = omega arith; w1 = omega arith; w2 = omega arith; w3 = omega arith }
-rest-within false a b = record { w0 = omega arith; w1 = omega arith; w2 = omega arith; w3 = omega arith }
+sum-without a b c = sum-grows c (second-within a b)
 
 term-bound : (w n : ℕ) → w ≤ 1024 → n ≤ 4294967295 → w * n ≤ 2 ^ 42
 term-bound w n h k = let most : w * n ≤ w * 4294967295 = mul-le-mul-left w k in omega (arith, most)

@@ -1,12 +1,9 @@
 -- What a pool means: its terms, which never change, and what it answers beside a used total.
-use mathlib.Core.Path.{_≡_}
-use mathlib.Core.Bool.{Bool, true, false, cond, _&&_, _||_}
-use Prim.Native.Nat.{ℕ}
-use lib.Dec.{leb}
+use mathlib.Core.Bool.{Bool, cond}
 use Rattle.std.specs.declared.result.Result.{Result}
 use Rattle.std.specs.declared.result.Result.the-variants.{Ok, Err}
 use Rattle.pools.specs.declared.fault.PoolFault.{PoolFault}
-use Rattle.pools.specs.Totals.{Total, nothing, plus, within, load}
+use Rattle.pools.specs.Totals.{Total, plus, within}
 
 -- a capacity for each supply, and which totals may be in use at once
 pub record Terms : Type 0 where

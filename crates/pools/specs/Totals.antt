@@ -1,7 +1,7 @@
 -- Totals: one whole number for each of the four supplies, of any size. What the program's amounts mean.
 use mathlib.Core.Bool.{Bool, _&&_}
 use mathlib.Core.List.{List}
-use Prim.Native.Nat.{ℕ, zero, suc, _+_, _-_, _*_, _≤_}
+use Prim.Native.Nat.{ℕ, _+_, _-_, _*_, _≤_}
 use lib.Dec.{leb}
 use lib.ListN.{getD}
 use Rattle.pools.specs.declared.amounts.Amounts.{Amounts}
@@ -48,7 +48,7 @@ pub record Within (a b : Total) : Type 0 where
   pub w2 : a .s2 ≤ b .s2
   pub w3 : a .s3 ≤ b .s3
 
--- the same as a test
+-- the same as a test; proofs/TotalLaws.antt shows that the two agree
 abbrev pub within : Total → Total → Bool
 within a b = leb (a .s0) (b .s0) && (leb (a .s1) (b .s1) && (leb (a .s2) (b .s2) && leb (a .s3) (b .s3)))
 

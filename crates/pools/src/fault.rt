@@ -25,7 +25,7 @@ pub enum PoolFault {
 impl PoolFault {
     // The number by which the refusal is told.
     pub fn number(self) -> u8
-        ensures as_told { λ r. ⌜ r ≡ told self .number ⌝ }
+        ensures number_of_the_fault { λ r. ⌜ r ≡ told self .number ⌝ }
     {
         match self {
             PoolFault::BadLayer => 9,
@@ -36,7 +36,7 @@ impl PoolFault {
     }
 
     pub fn layer(self) -> Layer
-        ensures as_told { λ r. ⌜ r ≡ told self .layer ⌝ }
+        ensures layer_of_the_fault { λ r. ⌜ r ≡ told self .layer ⌝ }
     {
         match self {
             PoolFault::BadLayer => Layer::Pool,

@@ -1,10 +1,8 @@
 // A layer that limits the load: weight times amount, added over the supplies.
 ghost use mathlib.Core.Path.{_≡_};
-ghost use mathlib.Core.Bool.{_&&_};
-ghost use lib.Dec.{leb};
 ghost use Rattle.std.specs.Vec.{made, refused};
 ghost use Rattle.pools.specs.Totals.{four, nothing, within};
-ghost use Rattle.pools.specs.Ranges.{heaviest, highest};
+ghost use Rattle.pools.specs.Ranges.{in-range};
 ghost use Rattle.pools.specs.Layers.{limit-terms, limit-meaning, layer-fault, fault-of};
 use crate::amounts::Amounts;
 use crate::amounts::SUPPLIES;
@@ -26,7 +24,7 @@ impl<P: Pool> LoadLimit<P> {
         weights: [u32; SUPPLIES],
         limit: u64,
     ) -> Result<LoadLimit<P>, RefusedLayer<P>>
-        ensures refused_if_out_of_range_or_the_pool_is_in_use { λ r. ⌜ fault-of r ≡ layer-fault (within (four weights) heaviest && leb limit highest) (within (P·Pool .used below) nothing) ⌝ }
+        ensures refused_if_out_of_range_or_the_pool_is_in_use { λ r. ⌜ fault-of r ≡ layer-fault (in-range (four weights) limit) (within (P·Pool .used below) nothing) ⌝ }
         ensures permits_up_to_the_limit { λ r. ⌜ made r (λ s. limit-meaning P·Pool s ≡ limit-terms (P·Pool .terms below) (four weights) limit) ⌝ }
         ensures starts_unused { λ r. ⌜ made r (λ s. P·Pool .used (s .below) ≡ nothing) ⌝ }
         ensures refused_pool_comes_back { λ r. ⌜ refused r (λ e. e .pool ≡ below) ⌝ }

@@ -1,12 +1,12 @@
 // The rule of a load limit: weights and a limit, in range.
 ghost use mathlib.Core.Path.{_≡_};
-ghost use mathlib.Core.Bool.{true, _&&_};
+ghost use mathlib.Core.Bool.{true};
 ghost use Prim.Native.Nat.{ℕ};
 ghost use lib.Dec.{leb};
 ghost use Rattle.std.specs.Numbers.{Checked};
 ghost use Rattle.std.specs.Options.{mapped};
 ghost use Rattle.pools.specs.Totals.{Total, four, total, within, load};
-ghost use Rattle.pools.specs.Ranges.{heaviest, highest};
+ghost use Rattle.pools.specs.Ranges.{heaviest, in-range};
 use crate::amounts::Amounts;
 use crate::amounts::SUPPLIES;
 
@@ -24,7 +24,7 @@ pub struct LoadRule {
 impl LoadRule {
     // None where a number is out of range.
     pub fn new(weights: [u32; SUPPLIES], limit: u64) -> Option<LoadRule>
-        ensures made_exactly_when_in_range { λ r. ⌜ Checked {T = Total × ℕ} (mapped (λ s. (four (s .weights), s .limit)) r) ((within (four weights) heaviest && leb limit highest) ≡ true) (four weights, limit) ⌝ }
+        ensures made_exactly_when_in_range { λ r. ⌜ Checked {T = Total × ℕ} (mapped (λ s. (four (s .weights), s .limit)) r) (in-range (four weights) limit ≡ true) (four weights, limit) ⌝ }
     {
         if weights[0] <= MAX_WEIGHT
             && weights[1] <= MAX_WEIGHT

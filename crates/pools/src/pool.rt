@@ -44,8 +44,8 @@ pub trait Pool {
     fn give_back(&mut self, demand: Amounts) -> Result<(), PoolFault>
         ensures given_exactly_when_used { λ r. ⌜ r ≡ judged (within (total demand) (used (now (self .entry)))) MoreThanUsed ⌝ }
         ensures subtracts_the_demand { λ r. ⌜ used (now (self .exit)) ≡ cond (isOk r) (minus (used (now (self .entry))) (total demand)) (used (now (self .entry))) ⌝ }
+        ensures never_adds { λ _. ⌜ Within (used (now (self .exit))) (used (now (self .entry))) ⌝ }
         ensures keeps_its_terms { λ r. ⌜ terms (now (self .exit)) ≡ terms (now (self .entry)) ⌝ }
-        ensures use_stays_permitted { λ r. ⌜ (terms (now (self .entry)) .permitted (used (now (self .entry))) ≡ true → terms (now (self .exit)) .permitted (used (now (self .exit))) ≡ true) ⌝ }
         ensures refusal_changes_nothing { λ r. ⌜ (isOk r ≡ false → now (self .exit) ≡ now (self .entry)) ⌝ };
 
     // Refuses a pool with amounts in use. Whatever settles on a new pool, a layer or the books, asks this first.
