@@ -6,7 +6,7 @@ use Rattle.std.specs.declared.option.Option.the-variants.{Some, None}
 use Rattle.std.specs.declared.result.Result.{Result}
 use Rattle.std.specs.declared.result.Result.the-variants.{Ok, Err}
 use Rattle.std.specs.Options.{mapped}
-use Rattle.pools.specs.Totals.{Total, four, total, nothing, within}
+use Rattle.pools.specs.Totals.{Total, of-array, total, nothing, is-within}
 use Rattle.pools.specs.Ranges.{in-range}
 use Rattle.pools.specs.Terms.{Terms, admits}
 use Rattle.pools.specs.Layers.{reserve-terms, limit-terms, layer-fault}
@@ -19,16 +19,16 @@ use Rattle.commands.specs.declared.layer.NotLaid.{NotLaid}
 -- the terms of a layer over a pool
 abbrev pub laid : Terms → NewLayer → Terms
 laid m (Reserve held) = reserve-terms m (total held)
-laid m (LoadLimit r) = limit-terms m (four (r .weights)) (r .limit)
+laid m (LoadLimit r) = limit-terms m (of-array (r .weights)) (r .limit)
 
 -- whether the layer's numbers are good beside what is used below
 abbrev pub numbers-good : Terms → Total → NewLayer → Bool
 numbers-good m used (Reserve held) = admits m used (total held)
-numbers-good m used (LoadLimit r) = in-range (four (r .weights)) (r .limit)
+numbers-good m used (LoadLimit r) = in-range (of-array (r .weights)) (r .limit)
 
 -- what stands in the way of a layer over a pool
 abbrev pub pool-obstacle : Terms → Total → NewLayer → Option Obstacle
-pool-obstacle m used layer = mapped Refused (layer-fault (numbers-good m used layer) (within used nothing))
+pool-obstacle m used layer = mapped Refused (layer-fault (numbers-good m used layer) (is-within used nothing))
 
 -- the same over a stack: no place is left, or the pool refuses it
 abbrev pub lay-obstacle : ℕ → Terms → Total → NewLayer → Option Obstacle

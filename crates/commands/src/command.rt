@@ -1,4 +1,4 @@
-// What can be asked of the desk, and what it answers.
+// What can be asked at the desk, and what it answers.
 use crate::layer::NewLayer;
 use pools::amounts::Amounts;
 use pools::fault::PoolFault;
@@ -16,16 +16,17 @@ pub enum Command {
 
 #[derive(Clone, Copy)]
 pub enum Reply {
-    LaidOut,
-    Laid,
+    SiteLaidOut,
+    LayerLaid(NewLayer),
     Taken,
     GivenBack,
+    // The answer to `Used`: the caller reads the used total from the session.
+    UsedTotal,
     Fits,
     DoesNotFit,
-    InUse,
     // There is no site yet.
     NoSite,
-    // The desk has no place for one layer more.
+    // There is no place for one layer more.
     NoPlace,
     Refused(PoolFault),
 }

@@ -20,7 +20,7 @@ pub struct LoadRequest {
 
 #[derive(Clone, Copy)]
 pub enum Obstacle {
-    // The desk has no place for one layer more.
+    // There is no place for one layer more.
     NoPlace,
     Refused(PoolFault),
 }
@@ -32,11 +32,10 @@ pub struct NotLaid<S> {
     pub stack: S,
 }
 
-impl<S> NotLaid<S> {
-    pub fn by(layer: RefusedLayer<S>) -> NotLaid<S>
-        ensures carries_the_fault { λ r. ⌜ r .obstacle ≡ Refused (layer .fault) ⌝ }
-        ensures carries_the_pool { λ r. ⌜ r .stack ≡ layer .pool ⌝ }
-    {
+pub impl<S> From<RefusedLayer<S>> for NotLaid<S> as NotLaidFromRefused {
+    ghost converts = { λ layer r. (r .obstacle ≡ Refused (layer .fault)) × (r .stack ≡ layer .pool) };
+
+    fn from(layer: RefusedLayer<S>) -> NotLaid<S> {
         NotLaid {
             obstacle: Obstacle::Refused(layer.fault),
             stack: layer.pool,

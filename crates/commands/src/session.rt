@@ -1,11 +1,10 @@
 // The desk's state: at most one site, and what each command does to it.
 ghost use mathlib.Core.Path.{_≡_};
 ghost use mathlib.Core.Bool.{true};
-ghost use Rattle.std.specs.Options.{mapped};
 ghost use Rattle.std.specs.declared.option.Option.the-variants.{None};
 ghost use Rattle.pools.specs.Totals.{total};
 ghost use Rattle.commands.specs.declared.command.Command.the-variants.{Lay};
-ghost use Rattle.commands.specs.Sessions.{known, free-places, Permitted-use, reply-to, known-after, refuses, used-now, capacity-now};
+ghost use Rattle.commands.specs.Sessions.{known, free-places, Permitted-use, reply-to, known-after, leaves, Places-after, used-now, capacity-now};
 use crate::command::Command;
 use crate::command::Reply;
 use crate::layer::NewLayer;
@@ -36,13 +35,14 @@ impl<S: Stack + Drop> Session<S> {
     pub fn obey(&mut self, command: Command) -> Reply
         ensures replies_by_the_rules { λ r. ⌜ r ≡ reply-to (free-places S·Stack (now (self .entry))) (known S·Pool (now (self .entry))) command ⌝ }
         ensures moves_by_the_rules { λ r. ⌜ known S·Pool (now (self .exit)) ≡ known-after (known S·Pool (now (self .entry))) command r ⌝ }
+        ensures layers_take_places { λ r. ⌜ Places-after (S·Stack .depth) (free-places S·Stack (now (self .entry))) (free-places S·Stack (now (self .exit))) command r ⌝ }
         ensures use_stays_permitted { λ r. ⌜ (Permitted-use (known S·Pool (now (self .entry))) → Permitted-use (known S·Pool (now (self .exit)))) ⌝ }
-        ensures refusal_changes_nothing { λ r. ⌜ (refuses r ≡ true → now (self .exit) ≡ now (self .entry)) ⌝ }
+        ensures question_or_refusal_changes_nothing { λ r. ⌜ (leaves r ≡ true → now (self .exit) ≡ now (self .entry)) ⌝ }
     {
         match command {
             Command::Site(capacity) => {
                 self.site = Some(S::bare(capacity));
-                Reply::LaidOut
+                Reply::SiteLaidOut
             }
             Command::Lay(layer) => self.lay(layer),
             Command::Take(demand) => {
@@ -74,7 +74,7 @@ impl<S: Stack + Drop> Session<S> {
                 }
             }
             Command::Used => match &self.site {
-                Some(_) => Reply::InUse,
+                Some(_) => Reply::UsedTotal,
                 None => Reply::NoSite,
             },
         }
@@ -100,8 +100,9 @@ impl<S: Stack + Drop> Session<S> {
     fn lay(&mut self, layer: NewLayer) -> Reply
         ensures replies_by_the_rules { λ r. ⌜ r ≡ reply-to (free-places S·Stack (now (self .entry))) (known S·Pool (now (self .entry))) (Lay layer) ⌝ }
         ensures moves_by_the_rules { λ r. ⌜ known S·Pool (now (self .exit)) ≡ known-after (known S·Pool (now (self .entry))) (Lay layer) r ⌝ }
+        ensures layers_take_places { λ r. ⌜ Places-after (S·Stack .depth) (free-places S·Stack (now (self .entry))) (free-places S·Stack (now (self .exit))) (Lay layer) r ⌝ }
         ensures use_stays_permitted { λ r. ⌜ (Permitted-use (known S·Pool (now (self .entry))) → Permitted-use (known S·Pool (now (self .exit)))) ⌝ }
-        ensures refusal_changes_nothing { λ r. ⌜ (refuses r ≡ true → now (self .exit) ≡ now (self .entry)) ⌝ }
+        ensures question_or_refusal_changes_nothing { λ r. ⌜ (leaves r ≡ true → now (self .exit) ≡ now (self .entry)) ⌝ }
     {
         let Some(site) = self.site.take() else {
             return Reply::NoSite;
@@ -109,7 +110,7 @@ impl<S: Stack + Drop> Session<S> {
         match site.lay(layer) {
             Ok(laid) => {
                 self.site = Some(laid);
-                Reply::Laid
+                Reply::LayerLaid(layer)
             }
             Err(refused) => {
                 self.site = Some(refused.stack);

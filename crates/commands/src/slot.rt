@@ -3,10 +3,12 @@ ghost use mathlib.Core.Path.{_≡_};
 ghost use Prim.Native.Nat.{ℕ, suc};
 ghost use Rattle.std.specs.Vec.{made, refused};
 ghost use Rattle.pools.specs.Totals.{nothing};
+ghost use Rattle.commands.specs.declared.slot.Slot.the-variants.{Free};
 ghost use Rattle.commands.specs.Stacks.{laid, pool-obstacle, obstacle-of};
 ghost use Rattle.commands.specs.Slots.{slot-terms, slot-used, slot-places};
 use crate::layer::NewLayer;
 use crate::layer::NotLaid;
+use crate::layer::NotLaidFromRefused;
 use crate::layer::Obstacle;
 use crate::stack::Stack;
 use pools::amounts::Amounts;
@@ -79,14 +81,21 @@ fn cover<P: Pool>(pool: P, layer: NewLayer) -> Result<Slot<P>, NotLaid<P>>
     ensures refused_pool_comes_back { λ r. ⌜ refused r (λ e. e .stack ≡ pool) ⌝ }
 {
     match layer {
-        NewLayer::Reserve(held) => match Reserve::over(pool, held) {
-            Ok(reserve) => Ok(Slot::Reserve(reserve)),
-            Err(refused) => Err(NotLaid::by(refused)),
-        },
-        NewLayer::LoadLimit(load) => match LoadLimit::over(pool, load.weights, load.limit) {
-            Ok(limit) => Ok(Slot::LoadLimit(limit)),
-            Err(refused) => Err(NotLaid::by(refused)),
-        },
+        NewLayer::Reserve(held) => Ok(Slot::Reserve(Reserve::over(pool, held)?)),
+        NewLayer::LoadLimit(load) => {
+            Ok(Slot::LoadLimit(LoadLimit::over(pool, load.weights, load.limit)?))
+        }
+    }
+}
+
+// A stack that was handed back, in the free slot that it came from.
+fn still_free<P: Pool>(refused: NotLaid<P>) -> NotLaid<Slot<P>>
+    ensures same_obstacle { λ r. ⌜ r .obstacle ≡ refused .obstacle ⌝ }
+    ensures same_stack { λ r. ⌜ r .stack ≡ Free (refused .stack) ⌝ }
+{
+    NotLaid {
+        obstacle: refused.obstacle,
+        stack: Slot::Free(refused.stack),
     }
 }
 
@@ -99,6 +108,7 @@ pub impl<P: Stack> Stack for Slot<P> as SlotStack {
         Slot::Free(P::bare(capacity))
     }
 
+    // The innermost free place is filled first.
     fn lay(self, layer: NewLayer) -> Result<Slot<P>, NotLaid<Slot<P>>> {
         let Slot::Free(below) = self else {
             return Err(NotLaid {
@@ -115,15 +125,9 @@ pub impl<P: Stack> Stack for Slot<P> as SlotStack {
                 },
             ) => match cover(stack, layer) {
                 Ok(covered) => Ok(covered),
-                Err(refused) => Err(NotLaid {
-                    obstacle: refused.obstacle,
-                    stack: Slot::Free(refused.stack),
-                }),
+                Err(refused) => Err(still_free(refused)),
             },
-            Err(refused) => Err(NotLaid {
-                obstacle: refused.obstacle,
-                stack: Slot::Free(refused.stack),
-            }),
+            Err(refused) => Err(still_free(refused)),
         }
     }
 }

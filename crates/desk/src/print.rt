@@ -1,90 +1,108 @@
-// What the desk prints of a command and of a mistake.
+// What the desk prints.
+use crate::outcome::Outcome;
+use crate::outcome::Told;
 use crate::script::Mistake;
 use commands::command::Command;
 use commands::command::Reply;
 use commands::layer::NewLayer;
-use commands::session::Status;
-use pools::amounts::Amounts;
+use pools::amounts::SUPPLIES;
 use pools::fault::PoolFault;
+use std::alloc::AllocError;
+use std::alloc::Global;
 use std::fmt;
 
-// The amounts of the four supplies, with a space between.
+// The text for the line with this number; none for a blank line.
+pub fn text_of(
+    heap: Global,
+    number: u64,
+    outcome: Outcome<'_>,
+) -> Result<Option<String>, AllocError> {
+    match outcome {
+        Outcome::Blank => Ok(None),
+        Outcome::Obeyed(told) => Ok(Some(format!(heap, "{number}: {told}")?)),
+        Outcome::Mistaken(mistake) => {
+            Ok(Some(format!(heap, "{number}: not understood: {mistake}")?))
+        }
+    }
+}
+
+// One number for each of the four supplies, with a space between.
 #[derive(Clone, Copy)]
-struct Four(Amounts);
+struct Four([u32; SUPPLIES]);
 
 impl fmt::Display for Four as FourDisplay {
     fn fmt<W: fmt::Write>(&self, f: &mut fmt::Formatter<W>) -> fmt::Result {
-        let [a, b, c, d] = self.0.each;
+        let [a, b, c, d] = self.0;
         write!(f, "{a} {b} {c} {d}")
     }
 }
 
-// A command with its reply, and how the site stands after it.
-#[derive(Clone, Copy)]
-pub struct Told {
-    pub command: Command,
-    pub reply: Reply,
-    pub status: Status,
-}
-
-pub impl fmt::Display for Told as ToldDisplay {
+impl fmt::Display for Told as ToldDisplay {
     fn fmt<W: fmt::Write>(&self, f: &mut fmt::Formatter<W>) -> fmt::Result {
-        let used = Four(self.status.used);
-        let capacity = Four(self.status.capacity);
+        let used = Four(self.status.used.each);
+        let capacity = Four(self.status.capacity.each);
         match self.reply {
-            Reply::LaidOut => write!(f, "site of {capacity}"),
-            Reply::Laid => show_laid(self.command, f),
+            Reply::SiteLaidOut => write!(f, "site of {capacity}"),
+            Reply::LayerLaid(layer) => show_layer(layer, f),
             Reply::Taken => write!(f, "taken; in use {used}"),
             Reply::GivenBack => write!(f, "given back; in use {used}"),
+            Reply::UsedTotal => write!(f, "in use {used} of {capacity}"),
             Reply::Fits => write!(f, "it fits"),
             Reply::DoesNotFit => write!(f, "it does not fit"),
-            Reply::InUse => write!(f, "in use {used} of {capacity}"),
             Reply::NoSite => write!(f, "no site yet: begin with `site`"),
-            Reply::NoPlace => write!(f, "the desk holds no more layers"),
+            Reply::NoPlace => write!(f, "no place for this layer: the desk lays at most four"),
             Reply::Refused(fault) => {
                 let number = fault.number();
-                let words = words_of(fault);
+                let words = words_of(fault, self.command);
                 write!(f, "refused with {number}: {words}")
             }
         }
     }
 }
 
-fn show_laid<W: fmt::Write>(command: Command, f: &mut fmt::Formatter<W>) -> fmt::Result {
-    match command {
-        Command::Lay(NewLayer::Reserve(held)) => {
-            let held = Four(held);
+fn show_layer<W: fmt::Write>(layer: NewLayer, f: &mut fmt::Formatter<W>) -> fmt::Result {
+    match layer {
+        NewLayer::Reserve(held) => {
+            let held = Four(held.each);
             write!(f, "reserve of {held}")
         }
-        Command::Lay(NewLayer::LoadLimit(load)) => {
+        NewLayer::LoadLimit(load) => {
             let limit = load.limit;
-            let each = load.weights;
-            let weights = Four(Amounts { each });
+            let weights = Four(load.weights);
             write!(f, "load limit of {limit} with weights {weights}")
         }
-        _ => write!(f, "laid"),
     }
 }
 
-// A refusal in words.
-fn words_of(fault: PoolFault) -> &'static str {
-    match fault {
-        PoolFault::BadLayer =>
-            "a number of the layer is out of range, or the reserve does not fit below",
-        PoolFault::MoreThanUsed => "more is given back than is in use",
-        PoolFault::InUse => "the pool has amounts in use",
-        PoolFault::DoesNotFit => "the demand does not fit",
+// The refusal of a command in words.
+fn words_of(fault: PoolFault, command: Command) -> &'static str {
+    match (fault, command) {
+        (PoolFault::BadLayer, Command::Lay(NewLayer::Reserve(_))) => {
+            "the reserve does not fit the site"
+        }
+        (PoolFault::BadLayer, _) => "a weight is above 1024 or the limit above 1099511627776",
+        (PoolFault::MoreThanUsed, _) => "more is given back than is in use",
+        (PoolFault::InUse, _) => "the site is in use; give everything back first",
+        (PoolFault::DoesNotFit, _) => "the demand does not fit",
     }
 }
 
-pub impl fmt::Display for Mistake<'_> as MistakeDisplay {
+impl fmt::Display for Mistake<'_> as MistakeDisplay {
     fn fmt<W: fmt::Write>(&self, f: &mut fmt::Formatter<W>) -> fmt::Result {
         match self {
-            Mistake::UnknownCommand(word) => write!(f, "there is no command {word:?}"),
+            Mistake::NotText => write!(f, "the line is not UTF-8 text"),
+            Mistake::UnknownCommand(word) => write!(
+                f,
+                "there is no command {word:?}; there are site, reserve, limit, take, give, fits and used"
+            ),
             Mistake::NoNumbers => write!(f, "one to four numbers are wanted"),
             Mistake::TooManyNumbers => write!(f, "there are more than four numbers"),
             Mistake::NotANumber(word) => write!(f, "{word:?} is not a decimal number"),
-            Mistake::TooLarge(word) => write!(f, "{word:?} is too large"),
+            Mistake::TooLarge(number) => {
+                let word = number.word;
+                let most = number.most;
+                write!(f, "{word:?} is above {most}")
+            }
             Mistake::NoWeights => write!(f, "write `limit NUMBER weights` and the weights"),
             Mistake::Unexpected(word) => write!(f, "{word:?} is not wanted here"),
         }

@@ -1,5 +1,7 @@
 // Lines of a script and what the desk says of them.
-use crate::respond::respond;
+use crate::carry_out::carry;
+use crate::print::text_of;
+use crate::script::read;
 use commands::session::Session;
 use commands::slot::Slot;
 use commands::slot::SlotPool;
@@ -18,7 +20,8 @@ fn says(
     line: &[u8],
     text: &str,
 ) -> Result<(), Fail> {
-    match respond(heap, session, 7, line)? {
+    let outcome = carry(session, read(heap, line)?);
+    match text_of(heap, 7, outcome)? {
         Some(said) => check_eq(said.as_str(), text),
         None => Err(Fail::new("nothing was said")),
     }
@@ -31,8 +34,14 @@ fn each_mistake_is_told_and_changes_nothing(rt: LibcRuntime) -> Result<(), Fail>
     says(heap, &mut session, b"site 9 18", "7: site of 9 18 0 0")?;
     says(heap, &mut session, b"take 1 4", "7: taken; in use 1 4 0 0")?;
     let mistakes: [(&[u8], &str); 13] = [
-        (b"tkae 1", "7: not understood: there is no command \"tkae\""),
-        (b"Take 1", "7: not understood: there is no command \"Take\""),
+        (
+            b"tkae 1",
+            "7: not understood: there is no command \"tkae\"; there are site, reserve, limit, take, give, fits and used",
+        ),
+        (
+            b"Take 1",
+            "7: not understood: there is no command \"Take\"; there are site, reserve, limit, take, give, fits and used",
+        ),
         (b"take", "7: not understood: one to four numbers are wanted"),
         (
             b"site # 4",
@@ -56,11 +65,11 @@ fn each_mistake_is_told_and_changes_nothing(rt: LibcRuntime) -> Result<(), Fail>
         ),
         (
             b"take 4294967296",
-            "7: not understood: \"4294967296\" is too large",
+            "7: not understood: \"4294967296\" is above 4294967295",
         ),
         (
             b"limit 18446744073709551616 weights 1",
-            "7: not understood: \"18446744073709551616\" is too large",
+            "7: not understood: \"18446744073709551616\" is above 18446744073709551615",
         ),
         (
             b"limit 9 2 1",
@@ -82,9 +91,11 @@ fn each_mistake_is_told_and_changes_nothing(rt: LibcRuntime) -> Result<(), Fail>
 fn blank_lines_say_nothing_and_white_space_does_not_count(rt: LibcRuntime) -> Result<(), Fail> {
     let heap = rt.alloc();
     let mut session: Session<SmallSite> = Session::new();
-    check(respond(heap, &mut session, 1, b"")?.is_none())?;
-    check(respond(heap, &mut session, 2, b" \t\r")?.is_none())?;
-    check(respond(heap, &mut session, 3, b"  # take 1")?.is_none())?;
+    let blank: [&[u8]; 3] = [b"", b" \t\r", b"  # take 1"];
+    for line in blank {
+        let outcome = carry(&mut session, read(heap, line)?);
+        check(text_of(heap, 7, outcome)?.is_none())?;
+    }
     says(
         heap,
         &mut session,
@@ -120,7 +131,7 @@ fn layers_are_laid_while_there_is_a_place(rt: LibcRuntime) -> Result<(), Fail> {
         heap,
         &mut session,
         b"limit 9 weights 2 1025",
-        "7: refused with 9: a number of the layer is out of range, or the reserve does not fit below",
+        "7: refused with 9: a weight is above 1024 or the limit above 1099511627776",
     )?;
     says(
         heap,
@@ -132,7 +143,7 @@ fn layers_are_laid_while_there_is_a_place(rt: LibcRuntime) -> Result<(), Fail> {
         heap,
         &mut session,
         b"reserve 1",
-        "7: the desk holds no more layers",
+        "7: no place for this layer: the desk lays at most four",
     )?;
     says(heap, &mut session, b"fits 4 1", "7: it fits")?;
     says(heap, &mut session, b"fits 4 2", "7: it does not fit")

@@ -37,25 +37,31 @@ pub fn bench_with_load_limit() -> Option<(bool, bool)>
     Some((nine, ten))
 }
 
-// Whether (3, 2) fits a bench of (4, 4) with that load limit and a reserve of (1, 0), the reserve on top and the load
-// limit on top: the order of layers matters.
-pub fn both_layers() -> Option<(bool, bool)>
-    ensures reserve_on_top_counts_in_the_load { λ r. ⌜ r ≡ Some (false, true) ⌝ }
+// Whether (3, 2) fits capacities (4, 4) under that load limit and a reserve of (1, 0) on top of it.
+pub fn reserve_over_load_limit() -> Option<bool>
+    ensures reserve_counts_in_the_load { λ r. ⌜ r ≡ Some false ⌝ }
 {
-    let reserve = Amounts { each: [1, 0, 0, 0] };
-    let demand = Amounts { each: [3, 2, 0, 0] };
     let bench = Bench::new(Amounts { each: [4, 4, 0, 0] });
     let Ok(limited) = LoadLimit::over(bench, [2, 1, 0, 0], 9) else {
         return None;
     };
-    let Ok(reserve_on_top) = Reserve::over(limited, reserve) else {
+    let Ok(pool) = Reserve::over(limited, Amounts { each: [1, 0, 0, 0] }) else {
         return None;
     };
-    let Ok(reserved) = Reserve::over(bench, reserve) else {
+    let demand = Amounts { each: [3, 2, 0, 0] };
+    Some(pool.fits(demand))
+}
+
+// The same with the two layers the other way round: the order of layers matters.
+pub fn load_limit_over_reserve() -> Option<bool>
+    ensures reserve_does_not_count_in_the_load { λ r. ⌜ r ≡ Some true ⌝ }
+{
+    let bench = Bench::new(Amounts { each: [4, 4, 0, 0] });
+    let Ok(reserved) = Reserve::over(bench, Amounts { each: [1, 0, 0, 0] }) else {
         return None;
     };
-    let Ok(limit_on_top) = LoadLimit::over(reserved, [2, 1, 0, 0], 9) else {
+    let Ok(pool) = LoadLimit::over(reserved, [2, 1, 0, 0], 9) else {
         return None;
     };
-    Some((reserve_on_top.fits(demand), limit_on_top.fits(demand)))
+    Some(pool.fits(Amounts { each: [3, 2, 0, 0] }))
 }

@@ -17,10 +17,10 @@ fn three_layers_deep() -> Result<(), Fail> {
     let bench = Bench::new(Amounts {
         each: [10, 10, 0, 0],
     });
-    let Ok(outer_limit) = LoadLimit::over(bench, [1, 1, 0, 0], 15) else {
+    let Ok(inner_limit) = LoadLimit::over(bench, [1, 1, 0, 0], 15) else {
         return Err(Fail::new("load limit refused"));
     };
-    let Ok(reserved) = Reserve::over(outer_limit, Amounts { each: [2, 1, 0, 0] }) else {
+    let Ok(reserved) = Reserve::over(inner_limit, Amounts { each: [2, 1, 0, 0] }) else {
         return Err(Fail::new("reserve refused"));
     };
     let Ok(mut pool) = LoadLimit::over(reserved, [0, 3, 0, 0], 12) else {
@@ -42,6 +42,43 @@ fn three_layers_deep() -> Result<(), Fail> {
     check_eq(pool.used().each, [8, 4, 0, 0])?;
     pool.give_back(Amounts { each: [8, 4, 0, 0] })?;
     check_eq(pool.check_unused(), Ok(()))
+}
+
+#[test]
+fn reserves_over_a_bench_of_four() -> Result<(), Fail> {
+    // The reserve, and the largest demand that then fits.
+    for (held, most) in [(0, 4), (1, 3), (4, 0)] {
+        let bench = Bench::new(Amounts { each: [4, 0, 0, 0] });
+        let Ok(pool) = Reserve::over(
+            bench,
+            Amounts {
+                each: [held, 0, 0, 0],
+            },
+        ) else {
+            return Err(Fail::new("reserve refused"));
+        };
+        check(pool.fits(Amounts {
+            each: [most, 0, 0, 0],
+        }))?;
+        check(
+            !pool.fits(Amounts {
+                each: [most + 1, 0, 0, 0],
+            }),
+        )?;
+    }
+    for held in [5, u32::MAX] {
+        let bench = Bench::new(Amounts { each: [4, 0, 0, 0] });
+        let Err(refused) = Reserve::over(
+            bench,
+            Amounts {
+                each: [held, 0, 0, 0],
+            },
+        ) else {
+            return Err(Fail::new("more is held back than there is"));
+        };
+        check_eq(refused.fault, PoolFault::BadLayer)?;
+    }
+    Ok(())
 }
 
 #[test]

@@ -5,14 +5,14 @@ use Prim.Native.Nat.{ℕ, _*_, _^_, _≤_}
 use native.Mathlib.Nat.{mul-le-mul-left}
 use native.Mathlib.Omega.{arith}
 use Rattle.std.proofs.shelf.Ways.{tells}
-use Rattle.pools.specs.Totals.{Total, alike, nothing, largest, in-each, plus, within, Within, load}
-use Rattle.pools.specs.Ranges.{heaviest}
+use Rattle.pools.specs.Totals.{Total, uniform, nothing, max-amounts, in-each, plus, is-within, Within, load}
+use Rattle.pools.specs.Ranges.{max-weights}
 
 -- the test and the fact
-pub test-within : {a b : Total} → within a b ≡ true → Within a b
+pub test-within : {a b : Total} → is-within a b ≡ true → Within a b
 test-within h = record { w0 = grind (arith, tells); w1 = grind (arith, tells); w2 = grind (arith, tells); w3 = grind (arith, tells) }
 
-pub within-test : {a b : Total} → Within a b → within a b ≡ true
+pub within-test : {a b : Total} → Within a b → is-within a b ≡ true
 within-test h = grind (arith, tells)
 
 pub within-trans : {a b c : Total} → Within a b → Within b c → Within a c
@@ -38,7 +38,7 @@ term-bound : (w n : ℕ) → w ≤ 1024 → n ≤ 4294967295 → w * n ≤ 2 ^ 4
 term-bound w n h k = let most : w * n ≤ w * 4294967295 = mul-le-mul-left w k in omega (arith, most)
 
 -- a weight in range times an amount of 32 bits has at most 42 bits
-pub terms-bounded : {w t : Total} → Within w heaviest → Within t largest → Within (in-each _*_ w t) (alike (2 ^ 42))
+pub terms-bounded : {w t : Total} → Within w max-weights → Within t max-amounts → Within (in-each _*_ w t) (uniform (2 ^ 42))
 terms-bounded h k = record { w0 = term-bound _ _ (h .w0) (k .w0); w1 = term-bound _ _ (h .w1) (k .w1); w2 = term-bound _ _ (h .w2) (k .w2); w3 = term-bound _ _ (h .w3) (k .w3) }
 
 -- a smaller total has no larger load

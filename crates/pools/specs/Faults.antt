@@ -5,12 +5,13 @@ use Rattle.pools.specs.declared.fault.Layer.the-variants.{Pool}
 use Rattle.pools.specs.declared.fault.PoolFault.{PoolFault}
 use Rattle.pools.specs.declared.fault.PoolFault.the-variants.{BadLayer, MoreThanUsed, InUse, DoesNotFit}
 
-pub record Telling : Type 0 where
+-- the number by which a refusal is told, and its layer
+pub record FaultCode : Type 0 where
   pub number : ℕ
   pub layer : Layer
 
-abbrev pub told : PoolFault → Telling
-told BadLayer = record { number = 9; layer = Pool }
-told MoreThanUsed = record { number = 28; layer = Pool }
-told InUse = record { number = 29; layer = Pool }
-told DoesNotFit = record { number = 30; layer = Pool }
+abbrev pub code-of : PoolFault → FaultCode
+code-of BadLayer = record { number = 9; layer = Pool }
+code-of MoreThanUsed = record { number = 28; layer = Pool }
+code-of InUse = record { number = 29; layer = Pool }
+code-of DoesNotFit = record { number = 30; layer = Pool }

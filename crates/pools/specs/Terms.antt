@@ -3,7 +3,7 @@ use mathlib.Core.Bool.{Bool, cond}
 use Rattle.std.specs.declared.result.Result.{Result}
 use Rattle.std.specs.declared.result.Result.the-variants.{Ok, Err}
 use Rattle.pools.specs.declared.fault.PoolFault.{PoolFault}
-use Rattle.pools.specs.Totals.{Total, plus, within}
+use Rattle.pools.specs.Totals.{Total, plus, is-within}
 
 -- a capacity for each supply, and which totals may be in use at once
 pub record Terms : Type 0 where
@@ -20,4 +20,4 @@ judged passes fault = cond passes (Ok tt) (Err fault)
 
 -- the bench permits every total within its capacities
 abbrev pub bench-terms : Total → Terms
-bench-terms c = record { capacity = c; permitted = λ t. within t c }
+bench-terms c = record { capacity = c; permitted = λ t. is-within t c }

@@ -13,22 +13,22 @@ pub record Total : Type 0 where
   pub s3 : ℕ
 
 -- four numbers of the program, one for each supply
-abbrev pub four : List ℕ → Total
-four xs = record { s0 = getD xs 0 0; s1 = getD xs 1 0; s2 = getD xs 2 0; s3 = getD xs 3 0 }
+abbrev pub of-array : List ℕ → Total
+of-array xs = record { s0 = getD xs 0 0; s1 = getD xs 1 0; s2 = getD xs 2 0; s3 = getD xs 3 0 }
 
 abbrev pub total : Amounts → Total
-total a = four (a .each)
+total a = of-array (a .each)
 
 -- the same number in each supply
-abbrev pub alike : ℕ → Total
-alike n = record { s0 = n; s1 = n; s2 = n; s3 = n }
+abbrev pub uniform : ℕ → Total
+uniform n = record { s0 = n; s1 = n; s2 = n; s3 = n }
 
 abbrev pub nothing : Total
-nothing = alike 0
+nothing = uniform 0
 
 -- the largest amounts of 32 bits
-abbrev pub largest : Total
-largest = alike 4294967295
+abbrev pub max-amounts : Total
+max-amounts = uniform 4294967295
 
 -- an operation in each supply
 abbrev pub in-each : (ℕ → ℕ → ℕ) → Total → Total → Total
@@ -49,8 +49,8 @@ pub record Within (a b : Total) : Type 0 where
   pub w3 : a .s3 ≤ b .s3
 
 -- the same as a test; proofs/TotalLaws.antt shows that the two agree
-abbrev pub within : Total → Total → Bool
-within a b = leb (a .s0) (b .s0) && (leb (a .s1) (b .s1) && (leb (a .s2) (b .s2) && leb (a .s3) (b .s3)))
+abbrev pub is-within : Total → Total → Bool
+is-within a b = leb (a .s0) (b .s0) && (leb (a .s1) (b .s1) && (leb (a .s2) (b .s2) && leb (a .s3) (b .s3)))
 
 -- weight times amount, added over the supplies
 abbrev pub load : Total → Total → ℕ

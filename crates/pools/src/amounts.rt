@@ -2,7 +2,7 @@
 ghost use mathlib.Core.Path.{_≡_};
 ghost use Rattle.std.specs.Numbers.{Checked};
 ghost use Rattle.std.specs.Options.{mapped};
-ghost use Rattle.pools.specs.Totals.{total, nothing, largest, plus, minus, within, Within};
+ghost use Rattle.pools.specs.Totals.{total, nothing, max-amounts, plus, minus, is-within, Within};
 
 // How many supplies there are. They are numbered from 0.
 pub const SUPPLIES: usize = 4;
@@ -20,14 +20,14 @@ impl Amounts {
     };
 
     pub fn is_zero(self) -> bool
-        ensures zero_in_each_supply { λ r. ⌜ r ≡ within (total self) nothing ⌝ }
+        ensures zero_in_each_supply { λ r. ⌜ r ≡ is-within (total self) nothing ⌝ }
     {
         self.each[0] == 0 && self.each[1] == 0 && self.each[2] == 0 && self.each[3] == 0
     }
 
     // Whether no amount is larger than that of `bound`.
     pub fn is_within(self, bound: Amounts) -> bool
-        ensures larger_in_no_supply { λ r. ⌜ r ≡ within (total self) (total bound) ⌝ }
+        ensures larger_in_no_supply { λ r. ⌜ r ≡ is-within (total self) (total bound) ⌝ }
     {
         self.each[0] <= bound.each[0]
             && self.each[1] <= bound.each[1]
@@ -37,7 +37,7 @@ impl Amounts {
 
     // The sum, or none where some amount would pass 32 bits.
     pub fn checked_add(self, other: Amounts) -> Option<Amounts>
-        ensures sum_if_32_bits { λ r. ⌜ Checked (mapped total r) (Within (plus (total self) (total other)) largest) (plus (total self) (total other)) ⌝ }
+        ensures sum_if_32_bits { λ r. ⌜ Checked (mapped total r) (Within (plus (total self) (total other)) max-amounts) (plus (total self) (total other)) ⌝ }
     {
         let a = self.each[0].checked_add(other.each[0])?;
         let b = self.each[1].checked_add(other.each[1])?;

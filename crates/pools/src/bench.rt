@@ -1,17 +1,17 @@
 // The pool that permits every total within its capacities.
 ghost use mathlib.Core.Path.{_≡_};
 ghost use mathlib.Core.Bool.{true};
-ghost use Rattle.pools.specs.Totals.{total, nothing, within, largest};
+ghost use Rattle.pools.specs.Totals.{total, nothing, is-within, max-amounts};
 ghost use Rattle.pools.specs.Terms.{bench-terms};
 use crate::amounts::Amounts;
 use crate::fault::PoolFault;
 use crate::pool::Pool;
 
-#[derive(Clone, Copy)]
+#[derive(Drop)]
 pub struct Bench {
     capacity: Amounts,
     used: Amounts,
-    ghost capacity_has_32_bits: { within (total capacity) largest ≡ true },
+    ghost capacity_has_32_bits: { is-within (total capacity) max-amounts ≡ true },
 }
 
 impl Bench {

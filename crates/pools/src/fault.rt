@@ -1,8 +1,8 @@
 // Why a pool refuses, and which layer of the scheduler a refusal comes from.
 ghost use mathlib.Core.Path.{_≡_};
-ghost use Rattle.pools.specs.Faults.{told};
+ghost use Rattle.pools.specs.Faults.{code-of};
 
-// The layer of the scheduler in which a fault arises.
+// The layer of the scheduler in which a fault arises. (The layers that are laid over a pool are another matter.)
 #[derive(Clone, Copy, PartialEq, Eq, Debug)]
 pub enum Layer {
     Reader,
@@ -16,7 +16,7 @@ pub enum PoolFault {
     BadLayer,
     // More is given back than is in use.
     MoreThanUsed,
-    // The pool has amounts in use, and a new one is wanted.
+    // The pool has amounts in use, where an unused one is wanted.
     InUse,
     // The used total plus the demand is not permitted.
     DoesNotFit,
@@ -25,7 +25,7 @@ pub enum PoolFault {
 impl PoolFault {
     // The number by which the refusal is told.
     pub fn number(self) -> u8
-        ensures number_of_the_fault { λ r. ⌜ r ≡ told self .number ⌝ }
+        ensures number_of_the_fault { λ r. ⌜ r ≡ code-of self .number ⌝ }
     {
         match self {
             PoolFault::BadLayer => 9,
@@ -36,13 +36,13 @@ impl PoolFault {
     }
 
     pub fn layer(self) -> Layer
-        ensures layer_of_the_fault { λ r. ⌜ r ≡ told self .layer ⌝ }
+        ensures layer_of_the_fault { λ r. ⌜ r ≡ code-of self .layer ⌝ }
     {
         match self {
-            PoolFault::BadLayer => Layer::Pool,
-            PoolFault::MoreThanUsed => Layer::Pool,
-            PoolFault::InUse => Layer::Pool,
-            PoolFault::DoesNotFit => Layer::Pool,
+            PoolFault::BadLayer
+            | PoolFault::MoreThanUsed
+            | PoolFault::InUse
+            | PoolFault::DoesNotFit => Layer::Pool,
         }
     }
 }

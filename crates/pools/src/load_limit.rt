@@ -1,7 +1,7 @@
 // A layer that limits the load: weight times amount, added over the supplies.
 ghost use mathlib.Core.Path.{_≡_};
 ghost use Rattle.std.specs.Vec.{made, refused};
-ghost use Rattle.pools.specs.Totals.{four, nothing, within};
+ghost use Rattle.pools.specs.Totals.{of-array, nothing, is-within};
 ghost use Rattle.pools.specs.Ranges.{in-range};
 ghost use Rattle.pools.specs.Layers.{limit-terms, limit-meaning, layer-fault, fault-of};
 use crate::amounts::Amounts;
@@ -10,6 +10,11 @@ use crate::fault::PoolFault;
 use crate::load_rule::LoadRule;
 use crate::pool::Pool;
 use crate::refused::RefusedLayer;
+
+// The largest weight and the largest limit that a load limit may have.
+pub const MAX_WEIGHT: u32 = 1_024;
+
+pub const MAX_LIMIT: u64 = 1 << 40;
 
 #[derive(Drop)]
 pub struct LoadLimit<P: Pool> {
@@ -24,8 +29,8 @@ impl<P: Pool> LoadLimit<P> {
         weights: [u32; SUPPLIES],
         limit: u64,
     ) -> Result<LoadLimit<P>, RefusedLayer<P>>
-        ensures refused_if_out_of_range_or_the_pool_is_in_use { λ r. ⌜ fault-of r ≡ layer-fault (in-range (four weights) limit) (within (P·Pool .used below) nothing) ⌝ }
-        ensures permits_up_to_the_limit { λ r. ⌜ made r (λ s. limit-meaning P·Pool s ≡ limit-terms (P·Pool .terms below) (four weights) limit) ⌝ }
+        ensures refused_if_out_of_range_or_the_pool_is_in_use { λ r. ⌜ fault-of r ≡ layer-fault (in-range (of-array weights) limit) (is-within (P·Pool .used below) nothing) ⌝ }
+        ensures permits_up_to_the_limit { λ r. ⌜ made r (λ s. limit-meaning P·Pool s ≡ limit-terms (P·Pool .terms below) (of-array weights) limit) ⌝ }
         ensures starts_unused { λ r. ⌜ made r (λ s. P·Pool .used (s .below) ≡ nothing) ⌝ }
         ensures refused_pool_comes_back { λ r. ⌜ refused r (λ e. e .pool ≡ below) ⌝ }
     {

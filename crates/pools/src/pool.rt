@@ -3,7 +3,7 @@ ghost use mathlib.Core.Path.{_≡_};
 ghost use mathlib.Core.Bool.{true, false, cond};
 ghost use Rattle.std.specs.Results.{isOk};
 ghost use Rattle.pools.specs.declared.fault.PoolFault.the-variants.{MoreThanUsed, InUse, DoesNotFit};
-ghost use Rattle.pools.specs.Totals.{Total, total, nothing, largest, plus, minus, within, Within};
+ghost use Rattle.pools.specs.Totals.{Total, total, nothing, max-amounts, plus, minus, is-within, Within};
 ghost use Rattle.pools.specs.Terms.{Terms, admits, judged};
 use crate::amounts::Amounts;
 use crate::fault::PoolFault;
@@ -20,7 +20,7 @@ pub trait Pool {
 
     law permitted_is_within_capacity: { (p : Self) (t : Total) → terms p .permitted t ≡ true → Within t (terms p .capacity) };
 
-    law permitted_has_32_bits: { (p : Self) (t : Total) → terms p .permitted t ≡ true → Within t largest };
+    law permitted_has_32_bits: { (p : Self) (t : Total) → terms p .permitted t ≡ true → Within t max-amounts };
 
     fn capacity(&self) -> Amounts
         ensures capacity_of_terms { λ r. ⌜ total r ≡ terms (now (self .entry)) .capacity ⌝ };
@@ -42,15 +42,15 @@ pub trait Pool {
 
     // Subtracts the demand from what is in use, where that much is.
     fn give_back(&mut self, demand: Amounts) -> Result<(), PoolFault>
-        ensures given_exactly_when_used { λ r. ⌜ r ≡ judged (within (total demand) (used (now (self .entry)))) MoreThanUsed ⌝ }
+        ensures given_exactly_when_used { λ r. ⌜ r ≡ judged (is-within (total demand) (used (now (self .entry)))) MoreThanUsed ⌝ }
         ensures subtracts_the_demand { λ r. ⌜ used (now (self .exit)) ≡ cond (isOk r) (minus (used (now (self .entry))) (total demand)) (used (now (self .entry))) ⌝ }
         ensures never_adds { λ _. ⌜ Within (used (now (self .exit))) (used (now (self .entry))) ⌝ }
         ensures keeps_its_terms { λ r. ⌜ terms (now (self .exit)) ≡ terms (now (self .entry)) ⌝ }
         ensures refusal_changes_nothing { λ r. ⌜ (isOk r ≡ false → now (self .exit) ≡ now (self .entry)) ⌝ };
 
-    // Refuses a pool with amounts in use. Whatever settles on a new pool, a layer or the books, asks this first.
+    // Refuses a pool with amounts in use. Whatever is laid over a new pool, a layer or the books, asks this.
     fn check_unused(&self) -> Result<(), PoolFault>
-        ensures refused_exactly_when_in_use { λ r. ⌜ r ≡ judged (within (used (now (self .entry))) nothing) InUse ⌝ }
+        ensures refused_exactly_when_in_use { λ r. ⌜ r ≡ judged (is-within (used (now (self .entry))) nothing) InUse ⌝ }
     {
         if self.used().is_zero() {
             Ok(())

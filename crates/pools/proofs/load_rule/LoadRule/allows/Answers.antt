@@ -3,11 +3,11 @@ use borrow.Author.Needs.{needs}
 use Prim.Native.Nat.{_*_, _^_}
 use Rattle.pools.specs.declared.load_rule.LoadRule.{LoadRule}
 use Rattle.pools.specs.declared.amounts.Amounts.{Amounts}
-use Rattle.pools.specs.Totals.{four, total, alike, largest, in-each, Within}
+use Rattle.pools.specs.Totals.{of-array, total, uniform, max-amounts, in-each, Within}
 use Rattle.pools.proofs.TotalLaws.{test-within, terms-bounded}
 use Rattle.pools.proofs.load_rule.LoadRule.allows.Needs as need
 
-bounds : (rule : LoadRule) (a : Amounts) → Within (total a) largest → Within (in-each _*_ (four (rule .weights)) (total a)) (alike (2 ^ 42))
+bounds : (rule : LoadRule) (a : Amounts) → Within (total a) max-amounts → Within (in-each _*_ (of-array (rule .weights)) (total a)) (uniform (2 ^ 42))
 bounds rule a small = terms-bounded (test-within (rule .«weights_in_range»)) small
 
 pub add-load : need.add-load
