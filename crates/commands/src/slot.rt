@@ -89,13 +89,13 @@ fn cover<P: Pool>(pool: P, layer: NewLayer) -> Result<Slot<P>, NotLaid<P>>
 }
 
 // A stack that was handed back, in the free slot that it came from.
-fn still_free<P: Pool>(refused: NotLaid<P>) -> NotLaid<Slot<P>>
-    ensures same_obstacle { λ r. ⌜ r .obstacle ≡ refused .obstacle ⌝ }
-    ensures same_stack { λ r. ⌜ r .stack ≡ Free (refused .stack) ⌝ }
+fn still_free<P: Pool>(back: NotLaid<P>) -> NotLaid<Slot<P>>
+    ensures same_obstacle { λ r. ⌜ r .obstacle ≡ back .obstacle ⌝ }
+    ensures same_stack { λ r. ⌜ r .stack ≡ Free (back .stack) ⌝ }
 {
     NotLaid {
-        obstacle: refused.obstacle,
-        stack: Slot::Free(refused.stack),
+        obstacle: back.obstacle,
+        stack: Slot::Free(back.stack),
     }
 }
 

@@ -1,5 +1,16 @@
 // One line of a script, read as a command.
-ghost use Rattle.desk.specs.Names.{Named};
+ghost use mathlib.Core.Path.{_≡_};
+ghost use mathlib.Core.Bool.{true};
+ghost use lib.Dec.{eqb};
+ghost use lib.ListN.{length, getD};
+ghost use Rattle.std.specs.Vec.{made};
+ghost use Rattle.std.specs.shelf.Text.{allDigits};
+ghost use Rattle.desk.specs.Words.{Reads, SaysLoad};
+ghost use Rattle.pools.specs.Totals.{total, of-array};
+ghost use mathlib.Core.List.{List};
+ghost use denote.Ref.{RefT};
+ghost use Prim.Native.Nat.{ℕ};
+ghost use Rattle.desk.specs.Numbers.{decimal-value, numbers};
 use commands::command::Command;
 use commands::layer::LoadRequest;
 use commands::layer::NewLayer;
@@ -7,6 +18,7 @@ use pools::amounts::Amounts;
 use pools::amounts::SUPPLIES;
 use std::alloc::AllocError;
 use std::alloc::Global;
+use std::num::IntErrorKind;
 
 // Why a line is not understood.
 #[derive(Clone, Copy)]
@@ -50,7 +62,7 @@ fn without_comment(text: &str) -> &str {
 }
 
 fn parse<'a>(words: &[&'a str]) -> Result<Option<Command>, Mistake<'a>>
-    ensures begins_with_its_name { λ r. ⌜ Named (now (words .entry)) r ⌝ }
+    ensures command_is_what_the_words_say { λ r. ⌜ Reads (now (words .entry)) r ⌝ }
 {
     let [name, rest @ ..] = words else {
         return Ok(None);
@@ -70,7 +82,9 @@ fn parse<'a>(words: &[&'a str]) -> Result<Option<Command>, Mistake<'a>>
     }
 }
 
-fn nothing_more<'a>(words: &[&'a str]) -> Result<(), Mistake<'a>> {
+fn nothing_more<'a>(words: &[&'a str]) -> Result<(), Mistake<'a>>
+    ensures no_words_are_left { λ r. ⌜ made r (λ _. length (now (words .entry)) ≡ 0) ⌝ }
+{
     match words {
         [] => Ok(()),
         [more, ..] => Err(Mistake::Unexpected(more)),
@@ -78,7 +92,9 @@ fn nothing_more<'a>(words: &[&'a str]) -> Result<(), Mistake<'a>> {
 }
 
 // The limit, the word `weights` and the weights.
-fn load_request<'a>(words: &[&'a str]) -> Result<LoadRequest, Mistake<'a>> {
+fn load_request<'a>(words: &[&'a str]) -> Result<LoadRequest, Mistake<'a>>
+    ensures load_is_what_the_words_say { λ r. ⌜ made r (λ l. ((d : RefT (List ℕ)) → SaysLoad d (now (words .entry)) l)) ⌝ }
+{
     match words {
         [limit, "weights", numbers @ ..] => Ok(LoadRequest {
             limit: number(limit)?,
@@ -88,27 +104,35 @@ fn load_request<'a>(words: &[&'a str]) -> Result<LoadRequest, Mistake<'a>> {
     }
 }
 
-fn amounts<'a>(words: &[&'a str]) -> Result<Amounts, Mistake<'a>> {
+fn amounts<'a>(words: &[&'a str]) -> Result<Amounts, Mistake<'a>>
+    ensures numbers_in_order { λ r. ⌜ made r (λ a. ((d : RefT (List ℕ)) → total a ≡ numbers d (now (words .entry)))) ⌝ }
+{
     let each = one_to_four(words)?;
     Ok(Amounts { each })
 }
 
 // One to four numbers, for supplies 0, 1 and so on; those left out are 0.
-fn one_to_four<'a>(words: &[&'a str]) -> Result<[u32; SUPPLIES], Mistake<'a>> {
-    if words.is_empty() {
-        return Err(Mistake::NoNumbers);
+fn one_to_four<'a>(words: &[&'a str]) -> Result<[u32; SUPPLIES], Mistake<'a>>
+    ensures numbers_in_order { λ r. ⌜ made r (λ each. ((d : RefT (List ℕ)) → of-array each ≡ numbers d (now (words .entry)))) ⌝ }
+{
+    match words {
+        [] => Err(Mistake::NoNumbers),
+        [a] => Ok([small_number(a)?, 0, 0, 0]),
+        [a, b] => Ok([small_number(a)?, small_number(b)?, 0, 0]),
+        [a, b, c] => Ok([small_number(a)?, small_number(b)?, small_number(c)?, 0]),
+        [a, b, c, d] => Ok([
+            small_number(a)?,
+            small_number(b)?,
+            small_number(c)?,
+            small_number(d)?,
+        ]),
+        _ => Err(Mistake::TooManyNumbers),
     }
-    if words.len() > SUPPLIES {
-        return Err(Mistake::TooManyNumbers);
-    }
-    let mut each = [0; SUPPLIES];
-    for (amount, word) in each.iter_mut().zip(words) {
-        *amount = small_number(word)?;
-    }
-    Ok(each)
 }
 
-fn small_number<'a>(word: &'a str) -> Result<u32, Mistake<'a>> {
+fn small_number<'a>(word: &'a str) -> Result<u32, Mistake<'a>>
+    ensures has_the_value_of_its_digits { λ r. ⌜ made r (λ n. (allDigits (now (word .entry)) ≡ true) × (n ≡ decimal-value (now (word .entry)))) ⌝ }
+{
     match u32::try_from(number(word)?) {
         Ok(n) => Ok(n),
         Err(_) => Err(Mistake::TooLarge(TooLarge {
@@ -119,17 +143,30 @@ fn small_number<'a>(word: &'a str) -> Result<u32, Mistake<'a>> {
 }
 
 // Decimal digits and nothing else.
-fn number<'a>(word: &'a str) -> Result<u64, Mistake<'a>> {
-    for b in word.bytes() {
-        if !b.is_ascii_digit() {
-            return Err(Mistake::NotANumber(word));
-        }
+fn number<'a>(word: &'a str) -> Result<u64, Mistake<'a>>
+    ensures has_the_value_of_its_digits { λ r. ⌜ made r (λ n. (allDigits (now (word .entry)) ≡ true) × (n ≡ decimal-value (now (word .entry)))) ⌝ }
+{
+    // A number of the library may begin with a plus.
+    if begins_with_plus(word) {
+        return Err(Mistake::NotANumber(word));
     }
     match word.parse::<u64>() {
         Ok(n) => Ok(n),
-        Err(_) => Err(Mistake::TooLarge(TooLarge {
-            word,
-            most: u64::MAX,
-        })),
+        Err(e) => match e.kind() {
+            IntErrorKind::PosOverflow => Err(Mistake::TooLarge(TooLarge {
+                word,
+                most: u64::MAX,
+            })),
+            _ => Err(Mistake::NotANumber(word)),
+        },
+    }
+}
+
+fn begins_with_plus(word: &str) -> bool
+    ensures first_byte_is_a_plus { λ r. ⌜ r ≡ eqb (getD (now (word .entry)) 0 0) 43 ⌝ }
+{
+    match word.as_bytes().first() {
+        Some(first) => *first == b'+',
+        None => false,
     }
 }
