@@ -1,4 +1,6 @@
 // Pools: what may be used of each supply at once, and what is in use.
+#![tactic(auto)]
+
 pub mod amounts;
 pub mod bench;
 pub mod fault;

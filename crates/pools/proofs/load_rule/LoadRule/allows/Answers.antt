@@ -8,17 +8,17 @@ use Rattle.pools.proofs.load_rule.LoadRule.allows.Goals as goal
 bounds : (rule : LoadRule) (a : Amounts) → Within (total a) max_amounts → Within (in_each ◌*◌ (of_array rule.weights) (total a)) (uniform (2 ^ 42))
 bounds rule a small = terms_bounded (test_within rule.weights_in_range) small
 
-pub overflow-add-load : goal.overflow-add-load
-overflow-add-load c =
+pub overflow_add-load : goal.overflow_add-load
+overflow_add-load c =
     let b = bounds c.args.self c.args.amounts (record { w0 = search rules; w1 = search rules; w2 = search rules; w3 = search rules }) in
     omega arith
 
-pub overflow-add-load-2 : goal.overflow-add-load-2
-overflow-add-load-2 c =
+pub overflow_add-load-2 : goal.overflow_add-load-2
+overflow_add-load-2 c =
     let b = bounds c.args.self c.args.amounts (record { w0 = search rules; w1 = search rules; w2 = search rules; w3 = search rules }) in
     omega arith
 
-pub overflow-add-load-3 : goal.overflow-add-load-3
-overflow-add-load-3 c =
+pub overflow_add-load-3 : goal.overflow_add-load-3
+overflow_add-load-3 c =
     let b = bounds c.args.self c.args.amounts (record { w0 = search rules; w1 = search rules; w2 = search rules; w3 = search rules }) in
     omega arith
