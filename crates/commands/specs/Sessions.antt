@@ -5,7 +5,6 @@ use Rattle.pools.specs.declared.pool.Pool.{Ghosts}
 use Rattle.pools.specs.declared.fault.PoolFault.TheVariants.{MoreThanUsed, DoesNotFit as FaultDoesNotFit}
 use Rattle.pools.specs.Totals.{Total, total, nothing, plus, minus, is_within}
 use Rattle.pools.specs.Terms.{Terms, admits, bench_terms}
-use Rattle.commands.specs.declared.stack.Stack.{Ghosts as StackGhosts}
 use Rattle.commands.specs.declared.layer.NewLayer.{NewLayer}
 use Rattle.commands.specs.declared.layer.Obstacle.{Obstacle}
 use Rattle.commands.specs.declared.layer.Obstacle.TheVariants.{NoPlace as NoPlaceLeft, Refused as RefusedByPool}
@@ -39,8 +38,8 @@ PermittedUse None = Unit {0}
 PermittedUse (Some k) = k.terms.permitted k.used ≡ true
 
 -- how many layers can still be laid over the site
-abbrev pub free_places : {S : Type 0} → StackGhosts S → Session S → ℕ
-free_places stack d = unwrap_or (option_map stack.places d.site) 0
+abbrev pub free_places : {S : Type 0} → (S → ℕ) → Session S → ℕ
+free_places places d = unwrap_or (option_map places d.site) 0
 
 -- the reply to a layer, by what stands in its way
 abbrev pub lay_reply : NewLayer → Option Obstacle → Reply

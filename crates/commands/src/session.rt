@@ -31,9 +31,9 @@ impl<S: Stack + Drop> Session<S> {
     }
 
     pub fn obey(&mut self, command: Command) -> Reply
-        ensures replies_by_the_rules { result ≡ reply_to (free_places S.Stack self.old) (known S.Pool self.old) command }
+        ensures replies_by_the_rules { result ≡ reply_to (free_places S.Stack.places self.old) (known S.Pool self.old) command }
         ensures moves_by_the_rules { known S.Pool self.new ≡ known_after (known S.Pool self.old) command result }
-        ensures layers_take_places { PlacesAfter S.Stack.depth (free_places S.Stack self.old) (free_places S.Stack self.new) command result }
+        ensures layers_take_places { PlacesAfter S.Stack.depth (free_places S.Stack.places self.old) (free_places S.Stack.places self.new) command result }
         ensures use_stays_permitted { PermittedUse (known S.Pool self.old) → PermittedUse (known S.Pool self.new) }
         ensures question_or_refusal_changes_nothing { leaves result ≡ true → self.new ≡ self.old }
     {
@@ -106,9 +106,9 @@ impl<S: Stack + Drop> Session<S> {
 
     // Lays a layer over the site, and puts the site back as it was if that is refused.
     fn lay(&mut self, layer: NewLayer) -> Reply
-        ensures replies_by_the_rules { result ≡ reply_to (free_places S.Stack self.old) (known S.Pool self.old) (Lay layer) }
+        ensures replies_by_the_rules { result ≡ reply_to (free_places S.Stack.places self.old) (known S.Pool self.old) (Lay layer) }
         ensures moves_by_the_rules { known S.Pool self.new ≡ known_after (known S.Pool self.old) (Lay layer) result }
-        ensures layers_take_places { PlacesAfter S.Stack.depth (free_places S.Stack self.old) (free_places S.Stack self.new) (Lay layer) result }
+        ensures layers_take_places { PlacesAfter S.Stack.depth (free_places S.Stack.places self.old) (free_places S.Stack.places self.new) (Lay layer) result }
         ensures use_stays_permitted { PermittedUse (known S.Pool self.old) → PermittedUse (known S.Pool self.new) }
         ensures question_or_refusal_changes_nothing { leaves result ≡ true → self.new ≡ self.old }
     {
