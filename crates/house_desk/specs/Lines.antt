@@ -1,5 +1,5 @@
 -- What a line of a script does to the desk, and what is told of it.
-use Rattle.std.specs.Prelude.{◌≡◌, ℕ, cond, Some, None, Ok, Err, Option, Result}
+use Rattle.std.specs.Prelude.{◌≡◌, ℕ, Some, None, Ok, Err, Option, Result}
 use Rattle.std.specs.Option.{option_map}
 use Rattle.pools.specs.declared.amounts.Amounts.{Amounts}
 use Rattle.pools.specs.Totals.{total}
