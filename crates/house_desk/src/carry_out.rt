@@ -19,10 +19,10 @@ pub fn carry<'a, S: Stack + Drop>(
     watch: &mut Watch,
     line: Result<Option<Request>, Mistake<'a>>,
 ) -> Outcome<'a>
-    ensures moves_by_its_command_alone { known S.Pool session.new ≡ known_after_line (free_places S.Stack session.old) (known S.Pool session.old) (site_command line.entry) }
+    ensures moves_by_its_command_alone { known S.Pool session.new ≡ known_after_line (free_places S.Stack.places session.old) (known S.Pool session.old) (site_command line.entry) }
     ensures mistake_or_house_leaves_the_site { site_command line.entry ≡ None → session.new ≡ session.old }
     ensures house_moves_by_its_command_alone { HouseAfterLine (known S.Pool session.old) (watched watch.old) (watched watch.new) line.entry result }
-    ensures tells_what_was_done { Tells (free_places S.Stack session.old) (known S.Pool session.old) (known S.Pool session.new) (watched watch.old) line.entry result }
+    ensures tells_what_was_done { Tells (free_places S.Stack.places session.old) (known S.Pool session.old) (known S.Pool session.new) (watched watch.old) line.entry result }
 {
     match line {
         Ok(None) => Outcome::Blank,
