@@ -1,5 +1,5 @@
 -- What a curve owes a house.
-use Rattle.std.proofs.Common.{ℕ, ◌≤◌, List, IfOk, vec_items, Result, Vec}
+use Rattle.std.proofs.Common.{ℕ, ◌≤◌, IfOk, vec_items, Result, Vec}
 use Rattle.std.specs.declared.alloc.AllocError.{AllocError}
 use Rattle.std.specs.declared.alloc.Global.{Global}
 use Rattle.measures.specs.Clock.{on_clock}

@@ -1,7 +1,7 @@
 -- The laws of the two measures.
 use Rattle.std.specs.Prelude.{◌≡◌, ℕ, ◌+◌, ◌<◌, ◌≤◌, min, max}
 use Rattle.std.proofs.Math.Path.{refl, ap}
-use Rattle.std.proofs.Common.{◌∙◌, arith}
+use Rattle.std.proofs.Common.{arith}
 use Rattle.pools.specs.Totals.{Within}
 use Rattle.measures.specs.declared.holding.Holding.{Holding}
 use Rattle.measures.specs.declared.account.Account.{Account}
@@ -10,7 +10,7 @@ use Rattle.measures.specs.Clock.{on_clock, Between}
 use Rattle.measures.specs.Holdings.{held}
 use Rattle.measures.specs.Accounts.{with_holding, with_past}
 use Rattle.measures.specs.Sites.{share_in, part_due}
-use Rattle.measures.specs.Records.{row, brought_to}
+use Rattle.measures.specs.Records.{brought_to}
 use Rattle.measures.specs.Levels.{commitment_at, standing, standing_low, standing_high, stateful_level, stateful_lowest, stateful_highest, plain_level}
 use Rattle.measures.specs.Bounds.{share_in_most}
 use Rattle.measures.specs.RecordLaws.{row_same, same_past}

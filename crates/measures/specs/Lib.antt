@@ -11,6 +11,7 @@ pub mod Records
 pub mod Levels
 -- laws that the definition of a brought record rests on: it holds no commitment above the whole
 pub mod Bounds
+-- laws by which the measures prove their own, and the laws below those
 pub mod LevelLaws
 pub mod RecordLaws
 pub mod GreatestLaws

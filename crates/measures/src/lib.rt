@@ -1,4 +1,6 @@
 // Measures: what a house holds and has held of a site, in whole numbers, and the level at which it stands.
+#![tactic(auto)]
+
 pub mod account;
 pub mod clock;
 pub mod commitment;

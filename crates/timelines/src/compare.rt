@@ -15,15 +15,15 @@ use pools::amounts::Amounts;
 
 // How far the level is below the largest of any measure.
 pub fn headroom<M: Measure>(measure: &M, account: &Account, tick: u64) -> u32
-    ensures largest_level_less_the_level { result ≡ 8388608 - level measure.now account.now tick }
+    ensures largest_level_less_the_level { result ≡ 8388608 - M.Measure.level measure.now account.now tick }
 {
     MAX_LEVEL - measure.level(account, tick)
 }
 
 // How far the level rises with one task more, or none where the holding would pass 64 bits.
 pub fn rise<M: Measure>(measure: &M, account: &Account, demand: Amounts, tick: u64) -> Option<u32>
-    ensures level_with_the_task_less_the_level { SomeIff result (Within (plus (held account.now.holding) (total demand)) max_held) (level measure.now (with_holding account.now (holding_of (plus (held account.now.holding) (total demand)))) tick - level measure.now account.now tick) }
-    ensures larger_holding_never_lowers_the_level { is_some result ≡ true → level measure.now account.now tick ≤ level measure.now (with_holding account.now (holding_of (plus (held account.now.holding) (total demand)))) tick }
+    ensures level_with_the_task_less_the_level { SomeIff result (Within (plus (held account.now.holding) (total demand)) max_held) (M.Measure.level measure.now (with_holding account.now (holding_of (plus (held account.now.holding) (total demand)))) tick - M.Measure.level measure.now account.now tick) }
+    ensures larger_holding_never_lowers_the_level { is_some result ≡ true → M.Measure.level measure.now account.now tick ≤ M.Measure.level measure.now (with_holding account.now (holding_of (plus (held account.now.holding) (total demand)))) tick }
 {
     let holding = account.holding.checked_add(demand)?;
     let grown = Account {
@@ -35,9 +35,9 @@ pub fn rise<M: Measure>(measure: &M, account: &Account, demand: Amounts, tick: u
 
 // The account once its record is brought to the tick, as at a grant or a finish.
 pub fn settled<M: Measure>(measure: &M, account: &Account, tick: u64) -> Account
-    ensures record_is_brought { result ≡ with_past account.now (brought measure.now account.now tick) }
-    ensures keeps_its_level { level measure.now result tick ≡ level measure.now account.now tick }
-    ensures settling_again_changes_nothing { (h : Holding) → brought measure.now (with_holding result h) tick ≡ result.past }
+    ensures record_is_brought { result ≡ with_past account.now (M.Measure.brought measure.now account.now tick) }
+    ensures keeps_its_level { M.Measure.level measure.now result tick ≡ M.Measure.level measure.now account.now tick }
+    ensures settling_again_changes_nothing { (h : Holding) → M.Measure.brought measure.now (with_holding result h) tick ≡ result.past }
 {
     Account {
         past: measure.bring(account, tick),
@@ -47,16 +47,16 @@ pub fn settled<M: Measure>(measure: &M, account: &Account, tick: u64) -> Account
 
 // Whether two measures over one site agree on an account: they always do.
 pub fn agree<M: Measure>(one: &M, other: &M, account: &Account, tick: u64) -> bool
-    ensures agree_over_one_site { site one.now ≡ site other.now → result ≡ true }
-    ensures bring_alike_over_one_site { site one.now ≡ site other.now → brought one.now account.now tick ≡ brought other.now account.now tick }
+    ensures agree_over_one_site { M.Measure.site one.now ≡ M.Measure.site other.now → result ≡ true }
+    ensures bring_alike_over_one_site { M.Measure.site one.now ≡ M.Measure.site other.now → M.Measure.brought one.now account.now tick ≡ M.Measure.brought other.now account.now tick }
 {
     one.level(account, tick) == other.level(account, tick)
 }
 
 // The level at the end of the clock, and the record brought there. Any tick from 2^62 on gives the same.
 pub fn at_the_end<M: Measure>(measure: &M, account: &Account) -> (u32, PastRecord)
-    ensures level_at_the_last_tick { result.0 ≡ level measure.now account.now (2 ^ 62) }
-    ensures record_at_the_last_tick { result.1 ≡ brought measure.now account.now (2 ^ 62) }
+    ensures level_at_the_last_tick { result.0 ≡ M.Measure.level measure.now account.now (2 ^ 62) }
+    ensures record_at_the_last_tick { result.1 ≡ M.Measure.brought measure.now account.now (2 ^ 62) }
 {
     (
         measure.level(account, u64::MAX),

@@ -87,6 +87,7 @@ impl<M: Measure> Timeline<M> {
             Err(_) => Err(NotHeld::NoMemory),
         }
     }
+
     // The account in force at a tick.
     pub fn in_force(&self, tick: u64) -> InForce
         ensures account_at_the_tick { result.account ≡ account_at self.now.stretches.items tick }

@@ -7,5 +7,5 @@ use Rattle.measures.proofs.decay.weight_after.Goals as goal
 pub returns : goal.returns
 unfolding weight_after
 returns c =
-    let entry : get_or c.decay-table.result.now c.min.result 0 ≡ weight_after c.args.elapsed = rule_fixes c.decay-table.ensures.follows-the-decay-rule c.min.result (omega arith) ∙ ap decayed c.min.ensures in
-    record { entry-for-the-ticks-elapsed = entry; at-most-the-full-weight = omega (arith, entry, weight_most c.args.elapsed) }
+    let entry : get_or c.decay_table.result.now c.min.result 0 ≡ weight_after c.args.elapsed = rule_fixes c.decay_table.ensures.follows_the_decay_rule c.min.result (omega arith) ∙ ap decayed c.min.ensures in
+    record { entry_for_the_ticks_elapsed = entry; at_most_the_full_weight = omega (arith, entry, weight_most c.args.elapsed) }

@@ -13,12 +13,12 @@ computed : (c : goal.After-min-held) → c.min-held.result * 1048576 / c.args.ca
 unfolding share_of
 computed c = search rules
 
-pub overflow-cast-result-3 : goal.overflow-cast-result-3
-overflow-cast-result-3 c = omega (arith, computed c, share_most c.args.amount c.args.capacity)
+pub overflow_cast-result-3 : goal.overflow_cast-result-3
+overflow_cast-result-3 c = omega (arith, computed c, share_most c.args.amount c.args.capacity)
 
 pub returns : goal.returns
 returns c = record {
-  amount-in-the-capacity-rounded-down = computed c;
-  at-most-the-whole = omega (arith, computed c, share_most c.args.amount c.args.capacity);
-  nothing-in-no-capacity = search rules;
+  amount_in_the_capacity_rounded_down = computed c;
+  at_most_the_whole = omega (arith, computed c, share_most c.args.amount c.args.capacity);
+  nothing_in_no_capacity = search rules;
 }

@@ -4,10 +4,10 @@ use Rattle.houses.proofs.house.House.curve.Goals as goal
 
 pub returns-in-Stateful : goal.returns-in-Stateful
 returns-in-Stateful c = record {
-  columns-hide-no-level = subst (HidesNothing c.args.first c.args.last c.curve.result) (sym c.in-Stateful.is) c.curve.ensures.columns-hide-no-level;
+  columns_hide_no_level = subst (HidesNothing c.args.first c.args.last c.curve.result) (sym c.in-Stateful.is) c.curve.ensures.columns_hide_no_level;
 }
 
 pub returns-in-Plain : goal.returns-in-Plain
 returns-in-Plain c = record {
-  columns-hide-no-level = subst (HidesNothing c.args.first c.args.last c.curve-in-Plain.result) (sym c.in-Plain.is) c.curve-in-Plain.ensures.columns-hide-no-level;
+  columns_hide_no_level = subst (HidesNothing c.args.first c.args.last c.curve-in-Plain.result) (sym c.in-Plain.is) c.curve-in-Plain.ensures.columns_hide_no_level;
 }

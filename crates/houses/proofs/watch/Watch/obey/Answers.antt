@@ -8,6 +8,6 @@ pub returns-in-Ok : goal.returns-in-Ok
 returns-in-Ok c =
     let house = c.in-Some-house.house in
     let done = c.in-Ok.ensures in
-    let course = done.notes-the-change ∙ ap (λ h. course_of house ++ change_at (brought_under (kind_of house) (site_of house)) (course_of house) c.in-Hold.tick h ∷ []) c.of.ensures.holds-the-demand in
-    let state : state_of c.hold.new.self ≡ with_change c.in-Hold.tick c.in-Hold.amounts (state_of house) = (λ i. record { kind = done.keeps-its-kind i; site = done.keeps-its-site i; course = course i }) in
+    let course = done.notes_the_change ∙ ap (λ h. course_of house ++ change_at (brought_under (kind_of house) (site_of house)) (course_of house) c.in-Hold.tick h ∷ []) c.of.ensures.holds_the_demand in
+    let state : state_of c.hold.new.self ≡ with_change c.in-Hold.tick c.in-Hold.amounts (state_of house) = (λ i. record { kind = done.keeps_its_kind i; site = done.keeps_its_site i; course = course i }) in
     search rules

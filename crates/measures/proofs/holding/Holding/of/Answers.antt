@@ -5,4 +5,4 @@ use Rattle.measures.specs.RecordLaws.{same_holding}
 use Rattle.measures.proofs.holding.Holding.of.Goals as goal
 
 pub returns : goal.returns
-returns c = record { holds-the-demand = same_holding _ (holding_of (total c.args.demand)) refl }
+returns c = record { holds_the_demand = same_holding _ (holding_of (total c.args.demand)) refl }

@@ -4,4 +4,4 @@ use Rattle.measures.specs.RecordLaws.{same_past}
 use Rattle.measures.proofs.past_record.PastRecord.new.Goals as goal
 
 pub returns : goal.returns
-returns c = record { starts-with-nothing-at-tick-zero = same_past _ new_past refl refl }
+returns c = record { starts_with_nothing_at_tick_zero = same_past _ new_past refl refl }

@@ -16,6 +16,6 @@ computed c = search (rules, greatest_all)
 
 pub returns : goal.returns
 returns c = record {
-  highest-over-the-two-ticks = computed c;
-  no-level-between-is-higher = λ k b. omega (arith, computed c, stateful_below c.args.self.now.site c.args.account.now c.args.one c.args.other k b);
+  highest_over_the_two_ticks = computed c;
+  no_level_between_is_higher = λ k b. omega (arith, computed c, stateful_below c.args.self.now.site c.args.account.now c.args.one c.args.other k b);
 }

@@ -16,6 +16,6 @@ computed c = search (rules, greatest_all)
 
 pub returns : goal.returns
 returns c = record {
-  lowest-over-the-two-ticks = computed c;
-  no-level-between-is-lower = λ k b. omega (arith, computed c, stateful_above c.args.self.now.site c.args.account.now c.args.one c.args.other k b);
+  lowest_over_the_two_ticks = computed c;
+  no_level_between_is_lower = λ k b. omega (arith, computed c, stateful_above c.args.self.now.site c.args.account.now c.args.one c.args.other k b);
 }
