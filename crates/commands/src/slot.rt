@@ -1,11 +1,10 @@
 // A place for one layer over a stack, filled or not.
-ghost use Rattle.std.specs.Prelude.{◌≡◌, ℕ, suc, IfOk, IfErr};
-ghost use Rattle.pools.specs.Totals.{nothing};
+ghost use Rattle.std.specs.Prelude.{◌≡◌, ℕ, suc, IfOk, IfErr, refl};
+ghost use Rattle.pools.specs.Totals.{of_array, nothing};
 ghost use Rattle.commands.specs.declared.slot.Slot.TheVariants.{Free, Reserve, LoadLimit};
 ghost use Rattle.commands.specs.Stacks.{laid, pool_obstacle, obstacle_of};
 ghost use Rattle.commands.specs.Slots.{slot_terms, slot_used, slot_places};
-ghost use Rattle.pools.specs.LayerLaws.{reserve_downward, limit_downward, reserve_bounded, limit_bounded};
-ghost use Rattle.std.proofs.Common.{rules};
+ghost use Rattle.pools.specs.LayerLaws.{limit_zero, reserve_downward, limit_downward, reserve_bounded, limit_bounded};
 
 use crate::layer::{NewLayer, NotLaid, Obstacle};
 use crate::stack::Stack;
@@ -27,7 +26,11 @@ impl<P: Pool> Pool for Slot<P> {
 
     ghost used = { λ s. slot_used P.Pool s };
 
-    ghost zero_is_permitted = { Prim.search rules };
+    ghost zero_is_permitted = { elim [
+      | Free p ↦ P.Pool.zero_is_permitted p
+      | Reserve s ↦ refl
+      | LoadLimit s ↦ limit_zero (P.Pool.terms s.below).permitted (of_array s.rule.weights) s.rule.limit (P.Pool.zero_is_permitted s.below)
+    ] };
 
     ghost smaller_is_permitted = { elim [
       | Free p ↦ P.Pool.smaller_is_permitted p

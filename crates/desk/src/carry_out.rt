@@ -13,9 +13,9 @@ pub fn carry<'a, S: Stack + Drop>(
     session: &mut Session<S>,
     line: Result<Option<Command>, Mistake<'a>>,
 ) -> Outcome<'a>
-    ensures moves_by_its_command_alone { known S.Pool session.new ≡ known_after_line (free_places S.Stack session.old) (known S.Pool session.old) (commanded line.entry) }
+    ensures moves_by_its_command_alone { known S.Pool session.new ≡ known_after_line (free_places S.Stack.places session.old) (known S.Pool session.old) (commanded line.entry) }
     ensures mistake_changes_nothing { commanded line.entry ≡ None → session.new ≡ session.old }
-    ensures tells_what_was_done { Tells (free_places S.Stack session.old) (known S.Pool session.old) (known S.Pool session.new) line.entry result }
+    ensures tells_what_was_done { Tells (free_places S.Stack.places session.old) (known S.Pool session.old) (known S.Pool session.new) line.entry result }
 {
     match line {
         Ok(None) => Outcome::Blank,

@@ -1,4 +1,6 @@
 // The desk: reads a script of commands from standard input and prints what each did.
+#![tactic(auto)]
+
 pub mod carry_out;
 pub mod outcome;
 pub mod print;

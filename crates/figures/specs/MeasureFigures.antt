@@ -1,6 +1,6 @@
 -- Two seats, one supply of capacity 4, and a house that holds all of it from tick 0 to tick 1,568.
 use Rattle.std.specs.Prelude.{◌≡◌, ℕ, [], ◌∷◌}
-use Rattle.std.proofs.Common.{arith}
+use Rattle.std.proofs.Common.{lit≤}
 use Rattle.pools.specs.Totals.{Total, nothing}
 use Rattle.measures.specs.declared.account.Account.{Account}
 use Rattle.measures.specs.declared.site.Site.{Site}
@@ -11,7 +11,7 @@ use Rattle.measures.specs.Records.{new_past, brought_to}
 use Rattle.measures.specs.Levels.{stateful_level}
 
 abbrev pub small_site : Site
-small_site = record { capacity = record { each = 4 ∷ 0 ∷ 0 ∷ 0 ∷ [] }; supplies = 1; part = equal_part 2; at_most_four_supplies = omega arith }
+small_site = record { capacity = record { each = 4 ∷ 0 ∷ 0 ∷ 0 ∷ [] }; supplies = 1; part = equal_part 2; at_most_four_supplies = lit≤ tt }
 
 -- it holds everything, and has no past
 abbrev pub busy : Account

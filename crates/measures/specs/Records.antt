@@ -1,6 +1,7 @@
 -- Past records: a new one, and one that was brought to a tick.
-use Rattle.std.specs.Prelude.{ℕ, zero, suc, ◌≤◌, List, [], ◌∷◌, slice_index}
-use Rattle.std.proofs.Common.{arith}
+use Rattle.std.specs.Prelude.{ℕ, zero, suc, ◌^◌, ◌≤◌, List, [], ◌∷◌, slice_index}
+use Rattle.std.proofs.Common.{lit≤, arith}
+use Rattle.std.proofs.Math.Nat.{min-le_right}
 use Rattle.measures.specs.declared.past_record.PastRecord.{PastRecord}
 use Rattle.measures.specs.declared.account.Account.{Account}
 use Rattle.measures.specs.declared.site.Site.{Site}
@@ -24,8 +25,8 @@ abbrev pub new_past : PastRecord
 new_past = record {
   commitments = row (λ _. 0);
   stamp = 0;
-  no_commitment_above_the_whole = row_most (λ _. 0) 1048576 (λ _. omega arith);
-  stamped_on_the_clock = omega arith;
+  no_commitment_above_the_whole = row_most (λ _. 0) 1048576 (λ _. lit≤ tt);
+  stamped_on_the_clock = lit≤ tt;
 }
 
 -- the commitments at a tick, stamped with it
@@ -34,5 +35,5 @@ brought_to g a t = record {
   commitments = row (commitment_in g (part_due g a) a t);
   stamp = on_clock t;
   no_commitment_above_the_whole = row_most (commitment_in g (part_due g a) a t) 1048576 (commitment_in_most g (part_due g a) a t);
-  stamped_on_the_clock = omega arith;
+  stamped_on_the_clock = min-le_right t (2 ^ 62);
 }

@@ -1,4 +1,6 @@
 // Pools on examples: what the contracts promise, seen to run.
+#![tactic(auto)]
+
 #[cfg(test)]
 mod extremes;
 #[cfg(test)]

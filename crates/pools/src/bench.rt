@@ -2,7 +2,7 @@
 ghost use Rattle.std.specs.Prelude.{◌≡◌, true};
 ghost use Rattle.pools.specs.Totals.{total, nothing, is_within, max_amounts};
 ghost use Rattle.pools.specs.Terms.{bench_terms};
-ghost use Rattle.std.proofs.Common.{rules, arith};
+ghost use Rattle.pools.specs.TotalLaws.{test_within, within_test, within_trans, nothing_within};
 
 use crate::amounts::Amounts;
 use crate::fault::PoolFault;
@@ -33,13 +33,13 @@ impl Pool for Bench {
 
     ghost used = { λ b. total b.used };
 
-    ghost zero_is_permitted = { first_of (Prim.search rules, Prim.grind (arith, Self.row.coded.inj)) };
+    ghost zero_is_permitted = { λ b. within_test (nothing_within (total b.capacity)) };
 
-    ghost smaller_is_permitted = { first_of (Prim.search rules, Prim.grind (arith, Self.row.coded.inj)) };
+    ghost smaller_is_permitted = { λ b t u w h. within_test (within_trans w (test_within h)) };
 
-    ghost permitted_is_within_capacity = { first_of (Prim.search rules, Prim.grind (arith, Self.row.coded.inj)) };
+    ghost permitted_is_within_capacity = { λ b t h. test_within h };
 
-    ghost permitted_has_32_bits = { first_of (Prim.search rules, Prim.grind (arith, Self.row.coded.inj)) };
+    ghost permitted_has_32_bits = { λ b t h. within_trans (test_within h) (test_within b.capacity_has_32_bits) };
 
     fn capacity(&self) -> Amounts {
         self.capacity

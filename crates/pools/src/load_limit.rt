@@ -3,8 +3,7 @@ ghost use Rattle.std.specs.Prelude.{◌≡◌, IfOk, IfErr};
 ghost use Rattle.pools.specs.Totals.{of_array, nothing, is_within};
 ghost use Rattle.pools.specs.Ranges.{in_range};
 ghost use Rattle.pools.specs.Layers.{limit_terms, limit_meaning, layer_fault, fault_of};
-ghost use Rattle.pools.specs.LayerLaws.{limit_zero, limit_downward};
-ghost use Rattle.std.proofs.Common.{rules};
+ghost use Rattle.pools.specs.LayerLaws.{limit_zero, limit_downward, limit_bounded};
 
 use crate::amounts::{Amounts, SUPPLIES};
 use crate::fault::PoolFault;
@@ -57,9 +56,9 @@ impl<P: Pool> Pool for LoadLimit<P> {
 
     ghost smaller_is_permitted = { λ s. limit_downward _ _ _ (P.Pool.smaller_is_permitted s.below) };
 
-    ghost permitted_is_within_capacity = { Prim.search rules };
+    ghost permitted_is_within_capacity = { λ s. limit_bounded _ _ _ _ (P.Pool.permitted_is_within_capacity s.below) };
 
-    ghost permitted_has_32_bits = { Prim.search rules };
+    ghost permitted_has_32_bits = { λ s. limit_bounded _ _ _ _ (P.Pool.permitted_has_32_bits s.below) };
 
     fn capacity(&self) -> Amounts {
         self.below.capacity()

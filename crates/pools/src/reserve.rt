@@ -1,10 +1,9 @@
 // A layer that keeps an amount of each supply of the pool below free.
-ghost use Rattle.std.specs.Prelude.{◌≡◌, IfOk, IfErr};
+ghost use Rattle.std.specs.Prelude.{◌≡◌, IfOk, IfErr, refl};
 ghost use Rattle.pools.specs.Totals.{total, nothing, is_within};
 ghost use Rattle.pools.specs.Terms.{admits};
 ghost use Rattle.pools.specs.Layers.{reserve_terms, reserve_meaning, layer_fault, fault_of};
 ghost use Rattle.pools.specs.LayerLaws.{reserve_downward, reserve_bounded};
-ghost use Rattle.std.proofs.Common.{rules};
 
 use crate::amounts::Amounts;
 use crate::fault::PoolFault;
@@ -43,7 +42,7 @@ impl<P: Pool> Pool for Reserve<P> {
 
     ghost used = { λ s. P.Pool.used s.below };
 
-    ghost zero_is_permitted = { Prim.search rules };
+    ghost zero_is_permitted = { λ s. refl };
 
     ghost smaller_is_permitted = { λ s. reserve_downward _ _ (P.Pool.smaller_is_permitted s.below) };
 

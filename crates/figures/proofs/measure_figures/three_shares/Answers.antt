@@ -5,6 +5,6 @@ use Rattle.figures.proofs.measure_figures.three_shares.Goals as goal
 pub returns : goal.returns
 unfolding share_of
 returns c = record {
-  code-gives-233016-699050-699050 = λ i. c.share.ensures.amount-in-the-capacity-rounded-down i ∷ c.share-2.ensures.amount-in-the-capacity-rounded-down i ∷ c.share-3.ensures.amount-in-the-capacity-rounded-down i ∷ [];
-  definition-gives-233016-699050-699050 = (refl, refl, refl);
+  code_gives_233016_699050_699050 = λ i. c.share.ensures.amount_in_the_capacity_rounded_down i ∷ c.share-2.ensures.amount_in_the_capacity_rounded_down i ∷ c.share-3.ensures.amount_in_the_capacity_rounded_down i ∷ [];
+  definition_gives_233016_699050_699050 = (refl, refl, refl);
 }
