@@ -7,5 +7,4 @@ test:
 run:
 	@mkdir -p target
 	@echo "proving and building the desk; the first time takes some minutes"
-	@rt check desk >target/desk.log 2>&1 || { cat target/desk.log; exit 1; }
-	target/bin/desk <examples/plan.txt
+	@cd crates/desk && rt run <../../examples/plan.txt 2>../../target/desk.log || { cat ../../target/desk.log; exit 1; }

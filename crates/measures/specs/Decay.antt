@@ -11,9 +11,9 @@ unfoldable pub weight_after : ℕ → ℕ
 weight_after elapsed = decayed (min elapsed 2047)
 
 -- what the decay table must be, entry by entry
-pub record DecayRule (table : List ℕ) : Type 0 where
-  pub has_2048_entries : length table ≡ 2048
-  pub starts_at_65536 : slice_index_or table 0 0 ≡ 65536
-  pub falls_by_one_in_256 : (k : ℕ) → suc k < 2048 → slice_index table (suc k) ≡ slice_index table k * 255 / 256
-  pub never_rises : (j k : ℕ) → j ≤ k → k < 2048 → slice_index table k ≤ slice_index table j
-  pub is_zero_from_1568 : (k : ℕ) → 1568 ≤ k → k < 2048 → slice_index table k ≡ 0
+pub record DecayRule (entries : List ℕ) : Type 0 where
+  pub has_2048_entries : length entries ≡ 2048
+  pub starts_at_65536 : slice_index_or entries 0 0 ≡ 65536
+  pub falls_by_one_in_256 : (k : ℕ) → suc k < 2048 → slice_index entries (suc k) ≡ slice_index entries k * 255 / 256
+  pub never_rises : (j k : ℕ) → j ≤ k → k < 2048 → slice_index entries k ≤ slice_index entries j
+  pub is_zero_from_1568 : (k : ℕ) → 1568 ≤ k → k < 2048 → slice_index entries k ≡ 0

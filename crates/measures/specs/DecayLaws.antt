@@ -50,10 +50,10 @@ from (x ∷ xs) i t (suc k) h =
     from xs (suc i) rest k (le_of_suc-le-suc h) ∙ ap decayed (suc-add i k ∙ sym (add-suc i k))
 
 -- the test shows the rule at every entry
-pub decay_rule : (table : List ℕ) → length table ≡ 2048 → decays_from 65536 table ≡ true → DecayRule table
+pub decay_rule : (entries : List ℕ) → length entries ≡ 2048 → decays_from 65536 entries ≡ true → DecayRule entries
 unfolding decayed
-decay_rule table long test =
-    let entry : (k : ℕ) → k < 2048 → slice_index table k ≡ decayed k = (λ k h. from table 0 test k (omega arith) ∙ ap decayed (zero-add k)) in
+decay_rule entries long test =
+    let entry : (k : ℕ) → k < 2048 → slice_index entries k ≡ decayed k = (λ k h. from entries 0 test k (omega arith) ∙ ap decayed (zero-add k)) in
     record {
       has_2048_entries = long;
       starts_at_65536 = entry 0 (omega arith);
@@ -63,7 +63,7 @@ decay_rule table long test =
     }
 
 -- the rule fixes every entry
-pub rule_fixes : {table : List ℕ} → DecayRule table → (k : ℕ) → k < 2048 → slice_index table k ≡ decayed k
+pub rule_fixes : {entries : List ℕ} → DecayRule entries → (k : ℕ) → k < 2048 → slice_index entries k ≡ decayed k
 unfolding decayed
 rule_fixes rule zero h = rule.starts_at_65536
 rule_fixes rule (suc k) h = rule.falls_by_one_in_256 k h ∙ ap (λ n. n * 255 / 256) (rule_fixes rule k (omega arith))
