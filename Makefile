@@ -7,4 +7,5 @@ test:
 run:
 	@mkdir -p target
 	@echo "proving and building the desk; the first time takes some minutes"
-	@cd crates/desk && rt run <../../examples/plan.txt 2>../../target/desk.log || { cat ../../target/desk.log; exit 1; }
+	@cd crates/desk && rt run </dev/null >../../target/desk.log 2>&1 || { cat ../../target/desk.log; exit 1; }
+	@crates/desk/out/desk <examples/plan.txt

@@ -44,7 +44,7 @@ pub record Within (a b : Total) : Type 0 where
   pub w2 : a.s2 ≤ b.s2
   pub w3 : a.s3 ≤ b.s3
 
--- the same as a test; proofs/TotalLaws.antt shows that the two agree
+-- the same as a test; specs/TotalLaws.antt shows that the two agree
 abbrev pub is_within : Total → Total → Bool
 is_within a b = nat_le a.s0 b.s0 && (nat_le a.s1 b.s1 && (nat_le a.s2 b.s2 && nat_le a.s3 b.s3))
 
