@@ -5,7 +5,7 @@ use Rattle.measures.specs.declared.account.Account.{Account}
 use Rattle.measures.specs.declared.past_record.PastRecord.{PastRecord}
 use Rattle.measures.specs.declared.site.Site.{Site}
 use Rattle.measures.specs.Records.{brought_to}
-use Rattle.measures.specs.Levels.{stateful_level, plain_level}
+use Rattle.measures.specs.Levels.{stateful_level, stateful_lowest, stateful_highest, plain_level}
 use Rattle.timelines.specs.declared.stretch.Stretch.{Stretch}
 use Rattle.houses.specs.declared.kind.Kind.{Kind}
 use Rattle.houses.specs.declared.kind.Kind.TheVariants as kind
@@ -28,11 +28,21 @@ abbrev pub course_of : House → List Stretch
 course_of (Stateful line) = vec_items line.stretches
 course_of (Plain line) = vec_items line.stretches
 
--- the level of an account under each measure, and its record brought to a tick
+-- the level of an account under each measure
 abbrev pub level_under : Kind → Site → Account → ℕ → ℕ
 level_under kind.Stateful g a t = stateful_level g a t
 level_under kind.Plain g a t = plain_level g a
 
+-- the bounds on the level of an account over the ticks between two
+abbrev pub lowest_under : Kind → Site → Account → ℕ → ℕ → ℕ
+lowest_under kind.Stateful g a t u = stateful_lowest g a t u
+lowest_under kind.Plain g a t u = plain_level g a
+
+abbrev pub highest_under : Kind → Site → Account → ℕ → ℕ → ℕ
+highest_under kind.Stateful g a t u = stateful_highest g a t u
+highest_under kind.Plain g a t u = plain_level g a
+
+-- its record brought to a tick
 abbrev pub brought_under : Kind → Site → Account → ℕ → PastRecord
 brought_under kind.Stateful g a t = brought_to g a t
 brought_under kind.Plain g a t = a.past

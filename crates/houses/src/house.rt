@@ -1,5 +1,6 @@
 // A house over time, under either measure.
 ghost use Rattle.std.specs.Prelude.{◌≡◌, ℕ, ◌≤◌, [], ◌∷◌, ◌++◌, is_ok, IfOk, if◌then◌else◌};
+ghost use Rattle.std.specs.List.{All};
 ghost use Rattle.std.specs.NonZero.{non_zero_u32_get};
 ghost use Rattle.pools.specs.declared.amounts.Amounts.{Amounts};
 ghost use Rattle.pools.specs.Totals.{total};
@@ -8,8 +9,8 @@ ghost use Rattle.measures.specs.Shares.{equal_part};
 ghost use Rattle.measures.specs.Sites.{made_of};
 ghost use Rattle.timelines.specs.Courses.{account_at, last_change};
 ghost use Rattle.timelines.specs.Changes.{change_at, Judged};
-ghost use Rattle.timelines.specs.Views.{Shows, Covered};
-ghost use Rattle.houses.specs.Houses.{supplies_in_use, kind_of, site_of, course_of, level_under, brought_under};
+ghost use Rattle.timelines.specs.Views.{Shows, Covered, IsTight};
+ghost use Rattle.houses.specs.Houses.{supplies_in_use, kind_of, site_of, course_of, level_under, lowest_under, highest_under, brought_under};
 
 use crate::kind::Kind;
 use measures::holding::Holding;
@@ -107,6 +108,7 @@ impl House {
     // The level from the first tick to the last, in columns.
     pub fn curve(&self, heap: Global, first: u64, last: u64) -> Result<Vec<Column>, AllocError>
         ensures columns_hide_no_level { IfOk result (λ v. ((k : ℕ) → first ≤ k → k ≤ on_clock last → Covered (λ t. level_under (kind_of self.now) (site_of self.now) (account_at (course_of self.now) t) t) v.items k)) }
+        ensures columns_are_no_wider_than_the_measure_tells { IfOk result (λ v. All (IsTight (lowest_under (kind_of self.now) (site_of self.now)) (highest_under (kind_of self.now) (site_of self.now)) (account_at (course_of self.now)) first (on_clock last)) v.items) }
     {
         match self {
             House::Stateful(line) => line.curve(heap, first, last),

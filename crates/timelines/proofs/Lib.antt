@@ -1,2 +1,3 @@
 pub mod CourseLaws
 pub mod CurveLaws
+pub mod RangeLaws

@@ -19,11 +19,32 @@ pub record Inside (level : ℕ) (r : LevelRange) : Type 0 where
   pub not_lower : r.lowest ≤ level
   pub not_higher : level ≤ r.highest
 
+-- a bound that a measure tells of an account over ticks of a span through which the account stays in force
+pub record ToldWithin (bound : Account → ℕ → ℕ → ℕ) (account : ℕ → Account) (first last n : ℕ) : Type 0 where
+  pub begin : ℕ
+  pub end : ℕ
+  pub not_before : first ≤ begin
+  pub not_after : end ≤ last
+  pub in_force : (k : ℕ) → begin ≤ k → k ≤ end → account k ≡ account begin
+  pub told : n ≡ bound (account begin) begin end
+
+-- a range is no wider than the measure makes it: each of its bounds is one that the measure tells within the span
+pub record NoWider (lowest highest : Account → ℕ → ℕ → ℕ) (account : ℕ → Account) (first last : ℕ) (r : LevelRange) : Type 0 where
+  pub low_is_told : ToldWithin lowest account first last r.lowest
+  pub high_is_told : ToldWithin highest account first last r.highest
+
 -- a tick that a column has, with the level there within the column's bounds
 pub record Has (level : ℕ → ℕ) (k : ℕ) (x : Column) : Type 0 where
   pub not_before : x.first ≤ k
   pub not_after : k ≤ x.last
   pub bounded : Inside (level k) x.range
+
+-- a column of a span, with ticks of it and bounds that are no wider than the measure makes them
+pub record IsTight (lowest highest : Account → ℕ → ℕ → ℕ) (account : ℕ → Account) (first last : ℕ) (x : Column) : Type 0 where
+  pub not_before : first ≤ x.first
+  pub has_a_tick : x.first ≤ x.last
+  pub not_after : x.last ≤ last
+  pub no_wider : NoWider lowest highest account x.first x.last x.range
 
 -- some column has the tick
 abbrev pub Covered : (ℕ → ℕ) → List Column → ℕ → Type 0

@@ -1,5 +1,5 @@
 // Questions about accounts under any measure. The answers rest on the measure's laws alone.
-ghost use Rattle.std.specs.Prelude.{◌≡◌, ℕ, ◌-◌, ◌^◌, ◌<◌, ◌≤◌, true, is_some};
+ghost use Rattle.std.specs.Prelude.{◌≡◌, ℕ, ◌-◌, ◌^◌, ◌<◌, ◌≤◌, ◌==◌, nat_lt, true, is_some};
 ghost use Rattle.std.specs.Option.{SomeIff};
 ghost use Rattle.pools.specs.Totals.{total, plus, Within};
 ghost use Rattle.measures.specs.declared.holding.Holding.{Holding};
@@ -47,6 +47,7 @@ pub fn settled<M: Measure>(measure: &M, account: &Account, tick: u64) -> Account
 
 // Whether two measures over one site agree on an account: they always do.
 pub fn agree<M: Measure>(one: &M, other: &M, account: &Account, tick: u64) -> bool
+    ensures tells_whether_the_levels_are_equal { result ≡ (M.Measure.level one.now account.now tick == M.Measure.level other.now account.now tick) }
     ensures agree_over_one_site { M.Measure.site one.now ≡ M.Measure.site other.now → result ≡ true }
     ensures bring_alike_over_one_site { M.Measure.site one.now ≡ M.Measure.site other.now → M.Measure.brought one.now account.now tick ≡ M.Measure.brought other.now account.now tick }
 {
@@ -72,6 +73,7 @@ pub fn stays_below<M: DatedMeasure>(
     one: u64,
     other: u64,
 ) -> bool
+    ensures answers_by_the_bounds { result ≡ nat_lt (M.DatedMeasure.highest measure.now below.now one other) (M.DatedMeasure.lowest measure.now above.now one other) }
     ensures lower_at_every_tick_between { result ≡ true → (k : ℕ) → Between one other k → M.Measure.level measure.now below.now k < M.Measure.level measure.now above.now k }
 {
     measure.highest(below, one, other) < measure.lowest(above, one, other)

@@ -1,9 +1,9 @@
 // A house that starts with nothing at tick 0, and whose holding changes at given ticks.
-ghost use Rattle.std.specs.Prelude.{◌≡◌, ℕ, ◌≤◌, [], ◌∷◌, ◌++◌, is_ok, if◌then◌else◌};
+ghost use Rattle.std.specs.Prelude.{◌≡◌, ℕ, ◌≤◌, min, max, [], ◌∷◌, ◌++◌, is_ok, if◌then◌else◌};
 ghost use Rattle.measures.specs.Clock.{on_clock, Between};
 ghost use Rattle.timelines.specs.Courses.{new_account, account_at, last_change};
 ghost use Rattle.timelines.specs.Changes.{change_at, Judged};
-ghost use Rattle.timelines.specs.Views.{Shows, Inside};
+ghost use Rattle.timelines.specs.Views.{Shows, Inside, NoWider};
 
 use crate::stretch::{InForce, LevelRange, Snapshot, Stretch};
 use measures::account::Account;
@@ -144,6 +144,7 @@ impl<M: DatedMeasure> Timeline<M> {
     // Bounds on the level at every tick from the first to the last, whatever changes between them.
     pub fn level_range(&self, first: u64, last: u64) -> LevelRange
         ensures no_level_between_is_outside { (k : ℕ) → first ≤ k → k ≤ last → Inside (M.Measure.level self.now.measure (account_at self.now.stretches.items k) k) result }
+        ensures no_wider_than_the_measure_tells { first ≤ last → NoWider (M.DatedMeasure.lowest self.now.measure) (M.DatedMeasure.highest self.now.measure) (account_at self.now.stretches.items) first last result }
     {
         let start = self.in_force(first);
         let mut end = start.until.min(last);
@@ -159,6 +160,8 @@ impl<M: DatedMeasure> Timeline<M> {
 
     fn over(&self, account: &Account, one: u64, other: u64) -> LevelRange
         ensures no_level_between_is_outside { (k : ℕ) → Between one other k → Inside (M.Measure.level self.now.measure account.now k) result }
+        ensures lowest_of_the_measure { result.lowest ≡ M.DatedMeasure.lowest self.now.measure account.now one other }
+        ensures highest_of_the_measure { result.highest ≡ M.DatedMeasure.highest self.now.measure account.now one other }
     {
         LevelRange {
             lowest: self.measure.lowest(account, one, other),
@@ -170,6 +173,8 @@ impl<M: DatedMeasure> Timeline<M> {
 // The smallest range that has both within.
 fn joined(a: LevelRange, b: LevelRange) -> LevelRange
     ensures has_both_within { ((n : ℕ) → Inside n a → Inside n result) × ((n : ℕ) → Inside n b → Inside n result) }
+    ensures lowest_of_the_two { result.lowest ≡ min a.lowest b.lowest }
+    ensures highest_of_the_two { result.highest ≡ max a.highest b.highest }
 {
     LevelRange {
         lowest: a.lowest.min(b.lowest),
