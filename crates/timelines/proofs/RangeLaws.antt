@@ -8,14 +8,15 @@ use Rattle.timelines.specs.Views.{ToldWithin, NoWider}
 module _ (bound : Account → ℕ → ℕ → ℕ) (account : ℕ → Account) (first : ℕ) where
   -- a longer span has what a shorter one had
   told_longer : (last later n : ℕ) → last ≤ later → ToldWithin bound account first last n → ToldWithin bound account first later n
-  told_longer last later n h t = record { begin = t.begin; end = t.end; not_before = t.not_before; not_after = omega arith; in_force = t.in_force; told = t.told }
+  told_longer last later n h t = record { begin = t.begin; end = t.end; not_before = t.not_before; has_a_tick = t.has_a_tick; not_after = omega arith; in_force = t.in_force; told = t.told }
 
   -- what is told of the account that is in force from one tick of the span to its last
-  pub told_here : (here : Account) (begin last n : ℕ) → first ≤ begin → here ≡ account begin → ((k : ℕ) → begin ≤ k → k ≤ last → account k ≡ here) → n ≡ bound here begin last → ToldWithin bound account first last n
-  told_here here begin last n after is stays tells = record {
+  pub told_here : (here : Account) (begin last n : ℕ) → first ≤ begin → begin ≤ last → here ≡ account begin → ((k : ℕ) → begin ≤ k → k ≤ last → account k ≡ here) → n ≡ bound here begin last → ToldWithin bound account first last n
+  told_here here begin last n after some is stays tells = record {
     begin = begin;
     end = last;
     not_before = after;
+    has_a_tick = some;
     not_after = omega arith;
     in_force = λ k h l. stays k h l ∙ is;
     told = tells ∙ ap (λ (a : Account). bound a begin last) is;

@@ -24,6 +24,7 @@ pub record ToldWithin (bound : Account → ℕ → ℕ → ℕ) (account : ℕ �
   pub begin : ℕ
   pub end : ℕ
   pub not_before : first ≤ begin
+  pub has_a_tick : begin ≤ end
   pub not_after : end ≤ last
   pub in_force : (k : ℕ) → begin ≤ k → k ≤ end → account k ≡ account begin
   pub told : n ≡ bound (account begin) begin end
