@@ -2,20 +2,15 @@
 ghost use Rattle.std.specs.Prelude.{◌≡◌};
 ghost use Rattle.commands.specs.declared.layer.Obstacle.TheVariants.{Refused};
 
-use pools::amounts::{Amounts, SUPPLIES};
+use pools::amounts::Amounts;
 use pools::fault::PoolFault;
+use pools::load_request::LoadRequest;
 use pools::refused::RefusedLayer;
 
 #[derive(Clone, Copy)]
 pub enum NewLayer {
     Reserve(Amounts),
     LoadLimit(LoadRequest),
-}
-
-#[derive(Clone, Copy)]
-pub struct LoadRequest {
-    pub limit: u64,
-    pub weights: [u32; SUPPLIES],
 }
 
 #[derive(Clone, Copy)]

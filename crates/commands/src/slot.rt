@@ -101,9 +101,7 @@ fn cover<P: Pool>(pool: P, layer: NewLayer) -> Result<Slot<P>, NotLaid<P>>
 {
     match layer {
         NewLayer::Reserve(held) => Ok(Slot::Reserve(Reserve::over(pool, held)?)),
-        NewLayer::LoadLimit(load) => {
-            Ok(Slot::LoadLimit(LoadLimit::over(pool, load.weights, load.limit)?))
-        }
+        NewLayer::LoadLimit(asked) => Ok(Slot::LoadLimit(LoadLimit::over(pool, asked)?)),
     }
 }
 

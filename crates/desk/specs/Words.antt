@@ -3,7 +3,7 @@ use Rattle.std.specs.Prelude.{◌≡◌, ℕ, ◌-◌, ◌<◌, List, length, ta
 use Rattle.std.specs.Borrow.{Bor}
 use Rattle.pools.specs.Totals.{total, of_array}
 use Rattle.commands.specs.declared.layer.NewLayer.TheVariants.{Reserve, LoadLimit}
-use Rattle.commands.specs.declared.layer.LoadRequest.{LoadRequest}
+use Rattle.pools.specs.declared.load_request.LoadRequest.{LoadRequest}
 use Rattle.commands.specs.declared.command.Command.{Command}
 use Rattle.commands.specs.declared.command.Command.TheVariants.{Site, Lay, Take, GiveBack, Fits, Used}
 use Rattle.desk.specs.Numbers.{decimal_value, numbers}

@@ -7,8 +7,9 @@ ghost use Rattle.std.specs.Borrow.{Bor};
 ghost use Rattle.desk.specs.Numbers.{decimal_value, numbers};
 
 use commands::command::Command;
-use commands::layer::{LoadRequest, NewLayer};
+use commands::layer::NewLayer;
 use pools::amounts::{Amounts, SUPPLIES};
+use pools::load_request::LoadRequest;
 use std::alloc::{AllocError, Global};
 use std::num::IntErrorKind;
 

@@ -1,7 +1,7 @@
 -- Two seats, one supply of capacity 4, and a house that holds all of it from tick 0 to tick 1,568.
 use Rattle.std.specs.Prelude.{◌≡◌, ℕ, [], ◌∷◌}
 use Rattle.std.proofs.Common.{lit≤}
-use Rattle.pools.specs.Totals.{Total, nothing}
+use Rattle.pools.specs.Totals.{nothing}
 use Rattle.measures.specs.declared.account.Account.{Account}
 use Rattle.measures.specs.declared.site.Site.{Site}
 use Rattle.measures.specs.Shares.{equal_part}

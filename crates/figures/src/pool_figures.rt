@@ -4,8 +4,15 @@ ghost use Rattle.std.specs.Prelude.{◌≡◌, true, false, Some};
 use pools::amounts::Amounts;
 use pools::bench::Bench;
 use pools::load_limit::LoadLimit;
+use pools::load_request::LoadRequest;
 use pools::pool::Pool;
 use pools::reserve::Reserve;
+
+// Weights 2 and 1, and the limit 9.
+const LOAD_OF_NINE: LoadRequest = LoadRequest {
+    limit: 9,
+    weights: [2, 1, 0, 0],
+};
 
 // Whether 3 and whether 4 fit a bench of 4 with a reserve of 1.
 pub fn bench_with_reserve() -> Option<(bool, bool)>
@@ -25,7 +32,7 @@ pub fn bench_with_load_limit() -> Option<(bool, bool)>
     ensures load_nine_is_permitted_and_load_ten_is_not { result ≡ Some (true, false) }
 {
     let bench = Bench::new(Amounts { each: [4, 4, 0, 0] });
-    let Ok(pool) = LoadLimit::over(bench, [2, 1, 0, 0], 9) else {
+    let Ok(pool) = LoadLimit::over(bench, LOAD_OF_NINE) else {
         return None;
     };
     let nine = pool.fits(Amounts { each: [4, 1, 0, 0] });
@@ -38,7 +45,7 @@ pub fn reserve_over_load_limit() -> Option<bool>
     ensures reserve_counts_in_the_load { result ≡ Some false }
 {
     let bench = Bench::new(Amounts { each: [4, 4, 0, 0] });
-    let Ok(limited) = LoadLimit::over(bench, [2, 1, 0, 0], 9) else {
+    let Ok(limited) = LoadLimit::over(bench, LOAD_OF_NINE) else {
         return None;
     };
     let Ok(pool) = Reserve::over(limited, Amounts { each: [1, 0, 0, 0] }) else {
@@ -56,7 +63,7 @@ pub fn load_limit_over_reserve() -> Option<bool>
     let Ok(reserved) = Reserve::over(bench, Amounts { each: [1, 0, 0, 0] }) else {
         return None;
     };
-    let Ok(pool) = LoadLimit::over(reserved, [2, 1, 0, 0], 9) else {
+    let Ok(pool) = LoadLimit::over(reserved, LOAD_OF_NINE) else {
         return None;
     };
     Some(pool.fits(Amounts { each: [3, 2, 0, 0] }))

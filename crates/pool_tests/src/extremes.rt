@@ -1,4 +1,5 @@
 // The smallest and the largest amounts.
+use crate::load;
 use pools::amounts::Amounts;
 use pools::bench::Bench;
 use pools::fault::PoolFault;
@@ -61,7 +62,7 @@ fn reserve_past_32_bits_does_not_wrap(rt: HostRuntime) -> Result<(), Fail> {
 
 #[test]
 fn largest_weights_and_limit(rt: HostRuntime) -> Result<(), Fail> {
-    let Ok(pool) = LoadLimit::over(Bench::new(LARGEST), [1_024; 4], 1 << 40) else {
+    let Ok(pool) = LoadLimit::over(Bench::new(LARGEST), load(1 << 40, [1_024; 4])) else {
         return Err(Fail::new("the largest weights and limit are fine"));
     };
     // 1,024 times 2^30 is 2^40.
@@ -76,7 +77,7 @@ fn largest_weights_and_limit(rt: HostRuntime) -> Result<(), Fail> {
         })
     );
     assert!(rt; !pool.fits(LARGEST));
-    let Ok(pool) = LoadLimit::over(Bench::new(LARGEST), [0; 4], 0) else {
+    let Ok(pool) = LoadLimit::over(Bench::new(LARGEST), load(0, [0; 4])) else {
         return Err(Fail::new("zero weights and limit are fine"));
     };
     assert!(rt; pool.fits(LARGEST));

@@ -1,4 +1,5 @@
 // Layers over layers.
+use crate::load;
 use pools::amounts::Amounts;
 use pools::bench::Bench;
 use pools::fault::PoolFault;
@@ -12,13 +13,13 @@ fn three_layers_deep(rt: HostRuntime) -> Result<(), Fail> {
     let bench = Bench::new(Amounts {
         each: [10, 10, 0, 0],
     });
-    let Ok(inner_limit) = LoadLimit::over(bench, [1, 1, 0, 0], 15) else {
+    let Ok(inner_limit) = LoadLimit::over(bench, load(15, [1, 1, 0, 0])) else {
         return Err(Fail::new("load limit refused"));
     };
     let Ok(reserved) = Reserve::over(inner_limit, Amounts { each: [2, 1, 0, 0] }) else {
         return Err(Fail::new("reserve refused"));
     };
-    let Ok(mut pool) = LoadLimit::over(reserved, [0, 3, 0, 0], 12) else {
+    let Ok(mut pool) = LoadLimit::over(reserved, load(12, [0, 3, 0, 0])) else {
         return Err(Fail::new("second load limit refused"));
     };
     assert_eq!(rt; pool.capacity().each, [10, 10, 0, 0]);

@@ -7,3 +7,11 @@ mod extremes;
 mod layers;
 #[cfg(test)]
 mod refusals;
+
+#[cfg(test)]
+use pools::load_request::LoadRequest;
+
+#[cfg(test)]
+fn load(limit: u64, weights: [u32; 4]) -> LoadRequest {
+    LoadRequest { limit, weights }
+}

@@ -1,4 +1,5 @@
 // Every refusal number, and what a refusal leaves.
+use crate::load;
 use pools::amounts::Amounts;
 use pools::bench::Bench;
 use pools::fault::{Layer, PoolFault};
@@ -74,15 +75,15 @@ fn bad_reserve_is_9_before_29_and_hands_the_pool_back(rt: HostRuntime) -> Result
 fn bad_load_limit_is_9_before_29_and_hands_the_pool_back(rt: HostRuntime) -> Result<(), Fail> {
     let mut pool = bench_of_four();
     pool.take(Amounts { each: [0, 1, 0, 0] })?;
-    let Err(refused) = LoadLimit::over(pool, [0, 0, 0, 1_025], 0) else {
+    let Err(refused) = LoadLimit::over(pool, load(0, [0, 0, 0, 1_025])) else {
         return Err(Fail::new("a weight above 1,024"));
     };
     assert_eq!(rt; refused.fault, PoolFault::BadLayer);
-    let Err(refused) = LoadLimit::over(refused.pool, [1, 1, 1, 1], (1 << 40) + 1) else {
+    let Err(refused) = LoadLimit::over(refused.pool, load((1 << 40) + 1, [1, 1, 1, 1])) else {
         return Err(Fail::new("a limit above 2^40"));
     };
     assert_eq!(rt; refused.fault, PoolFault::BadLayer);
-    let Err(refused) = LoadLimit::over(refused.pool, [1_024, 0, 0, 0], 1 << 40) else {
+    let Err(refused) = LoadLimit::over(refused.pool, load(1 << 40, [1_024, 0, 0, 0])) else {
         return Err(Fail::new("a pool in use takes no layer"));
     };
     assert_eq!(rt; refused.fault, PoolFault::InUse);

@@ -1,7 +1,9 @@
 pub mod Totals
+pub mod Rows
 pub mod Ranges
 pub mod Faults
 pub mod Terms
 pub mod Layers
+pub mod Rules
 pub mod LayerLaws
 pub mod TotalLaws

@@ -50,28 +50,23 @@ impl Pool for Bench {
     }
 
     fn fits(&self, demand: Amounts) -> bool {
-        match self.used.checked_add(demand) {
-            Some(total) => total.is_within(self.capacity),
-            None => false,
-        }
+        self.used
+            .checked_add(demand)
+            .is_some_and(|total| total.is_within(self.capacity))
     }
 
     fn take(&mut self, demand: Amounts) -> Result<(), PoolFault> {
-        let Some(total) = self.used.checked_add(demand) else {
-            return Err(PoolFault::DoesNotFit);
-        };
-        if !total.is_within(self.capacity) {
-            return Err(PoolFault::DoesNotFit);
-        }
-        self.used = total;
+        let total = self
+            .used
+            .checked_add(demand)
+            .filter(|total| total.is_within(self.capacity));
+        self.used = total.ok_or(PoolFault::DoesNotFit)?;
         Ok(())
     }
 
     fn give_back(&mut self, demand: Amounts) -> Result<(), PoolFault> {
-        let Some(rest) = self.used.checked_sub(demand) else {
-            return Err(PoolFault::MoreThanUsed);
-        };
-        self.used = rest;
+        let rest = self.used.checked_sub(demand);
+        self.used = rest.ok_or(PoolFault::MoreThanUsed)?;
         Ok(())
     }
 }

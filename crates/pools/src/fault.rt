@@ -10,16 +10,17 @@ pub enum Layer {
     Pool,
 }
 
+// Each case has the number by which the refusal is told.
 #[derive(Clone, Copy, PartialEq, Eq, Debug)]
 pub enum PoolFault {
     // A layer's numbers are out of range, or a reserve does not fit below.
-    BadLayer,
+    BadLayer = 9,
     // More is given back than is in use.
-    MoreThanUsed,
+    MoreThanUsed = 28,
     // The pool has amounts in use, where an unused one is wanted.
-    InUse,
+    InUse = 29,
     // The used total plus the demand is not permitted.
-    DoesNotFit,
+    DoesNotFit = 30,
 }
 
 impl PoolFault {
@@ -27,12 +28,7 @@ impl PoolFault {
     pub fn number(self) -> u8
         ensures number_of_the_fault { result ≡ (code_of self).number }
     {
-        match self {
-            PoolFault::BadLayer => 9,
-            PoolFault::MoreThanUsed => 28,
-            PoolFault::InUse => 29,
-            PoolFault::DoesNotFit => 30,
-        }
+        self as u8
     }
 
     pub fn layer(self) -> Layer

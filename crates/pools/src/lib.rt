@@ -5,6 +5,7 @@ pub mod amounts;
 pub mod bench;
 pub mod fault;
 pub mod load_limit;
+pub mod load_request;
 mod load_rule;
 pub mod pool;
 pub mod refused;

@@ -5,8 +5,9 @@ ghost use Rattle.pools.specs.Ranges.{in_range};
 ghost use Rattle.pools.specs.Layers.{limit_terms, limit_meaning, layer_fault, fault_of};
 ghost use Rattle.pools.specs.LayerLaws.{limit_zero, limit_downward, limit_bounded};
 
-use crate::amounts::{Amounts, SUPPLIES};
+use crate::amounts::Amounts;
 use crate::fault::PoolFault;
+use crate::load_request::LoadRequest;
 use crate::load_rule::LoadRule;
 use crate::pool::Pool;
 use crate::refused::RefusedLayer;
@@ -24,24 +25,15 @@ pub struct LoadLimit<P: Pool> {
 
 impl<P: Pool> LoadLimit<P> {
     // Lays a load limit over a new pool. A refusal hands the pool back.
-    pub fn over(
-        below: P,
-        weights: [u32; SUPPLIES],
-        limit: u64,
-    ) -> Result<LoadLimit<P>, RefusedLayer<P>>
-        ensures refused_if_out_of_range_or_the_pool_is_in_use { fault_of result ≡ layer_fault (in_range (of_array weights) limit) (is_within (P.Pool.used below) nothing) }
-        ensures permits_up_to_the_limit { IfOk result (λ s. limit_meaning P.Pool s ≡ limit_terms (P.Pool.terms below) (of_array weights) limit) }
+    pub fn over(below: P, asked: LoadRequest) -> Result<LoadLimit<P>, RefusedLayer<P>>
+        ensures refused_if_out_of_range_or_the_pool_is_in_use { fault_of result ≡ layer_fault (in_range (of_array asked.weights) asked.limit) (is_within (P.Pool.used below) nothing) }
+        ensures permits_up_to_the_limit { IfOk result (λ s. limit_meaning P.Pool s ≡ limit_terms (P.Pool.terms below) (of_array asked.weights) asked.limit) }
         ensures starts_unused { IfOk result (λ s. P.Pool.used s.below ≡ nothing) }
         ensures refused_pool_comes_back { IfErr result (λ e. e.pool ≡ below) }
     {
-        let Some(rule) = LoadRule::new(weights, limit) else {
-            return Err(RefusedLayer {
-                fault: PoolFault::BadLayer,
-                pool: below,
-            });
-        };
-        match below.check_unused() {
-            Ok(()) => Ok(LoadLimit { below, rule }),
+        let judged = LoadRule::try_from(asked).and_then(|rule| below.check_unused().map(|()| rule));
+        match judged {
+            Ok(rule) => Ok(LoadLimit { below, rule }),
             Err(fault) => Err(RefusedLayer { fault, pool: below }),
         }
     }
@@ -69,10 +61,10 @@ impl<P: Pool> Pool for LoadLimit<P> {
     }
 
     fn fits(&self, demand: Amounts) -> bool {
-        match self.below.used().checked_add(demand) {
-            Some(total) => self.below.fits(demand) && self.rule.allows(total),
-            None => false,
-        }
+        self.below
+            .used()
+            .checked_add(demand)
+            .is_some_and(|total| self.below.fits(demand) && self.rule.allows(total))
     }
 
     fn take(&mut self, demand: Amounts) -> Result<(), PoolFault> {

@@ -1,11 +1,11 @@
 // The rule of a load limit: weights and a limit, in range.
-ghost use Rattle.std.specs.Prelude.{◌≡◌, ℕ, true, nat_le};
-ghost use Rattle.std.specs.Option.{SomeIff, option_map};
-ghost use Rattle.pools.specs.Totals.{Total, of_array, total, is_within, load};
-ghost use Rattle.pools.specs.Ranges.{max_weights, in_range};
+ghost use Rattle.std.specs.Prelude.{◌≡◌, true, nat_le};
+ghost use Rattle.pools.specs.Totals.{of_array, total, is_within, load};
+ghost use Rattle.pools.specs.Ranges.{max_weights};
 
 use crate::amounts::{Amounts, SUPPLIES};
-use crate::load_limit::{MAX_LIMIT, MAX_WEIGHT};
+
+mod judged;
 
 #[derive(Clone, Copy)]
 pub struct LoadRule {
@@ -15,23 +15,8 @@ pub struct LoadRule {
 }
 
 impl LoadRule {
-    // None where a number is out of range.
-    pub fn new(weights: [u32; SUPPLIES], limit: u64) -> Option<LoadRule>
-        ensures made_exactly_when_in_range { SomeIff {T = Total × ℕ} (option_map (λ s. (of_array s.weights, s.limit)) result) (in_range (of_array weights) limit ≡ true) (of_array weights, limit) }
-    {
-        if weights[0] <= MAX_WEIGHT
-            && weights[1] <= MAX_WEIGHT
-            && weights[2] <= MAX_WEIGHT
-            && weights[3] <= MAX_WEIGHT
-            && limit <= MAX_LIMIT
-        {
-            Some(LoadRule { weights, limit })
-        } else {
-            None
-        }
-    }
-
     // Whether the load is at most the limit. Its four terms have at most 42 bits each, so that the sum cannot overflow.
+    // (Tried as `zip`, `map` and `sum`: that the sum fits did not close.)
     pub fn allows(self, amounts: Amounts) -> bool
         ensures load_is_at_most_the_limit { result ≡ nat_le (load (of_array self.weights) (total amounts)) self.limit }
     {

@@ -6,7 +6,8 @@ ghost use Rattle.scripts.specs.Words.{SaysLoad, name_of_site, SaysSite};
 use crate::mistake::Mistake;
 use crate::numbers::{amounts, number, one_to_four};
 use commands::command::Command;
-use commands::layer::{LoadRequest, NewLayer};
+use commands::layer::NewLayer;
+use pools::load_request::LoadRequest;
 
 // The command with this name, from the words after it.
 pub fn site_command<'a>(name: &'a str, rest: &[&'a str]) -> Result<Command, Mistake<'a>>

@@ -1,6 +1,4 @@
-use Rattle.std.proofs.Common.{◌≡◌, ℕ, [], ◌∷◌, Some, refl, ap, ◌∙◌}
-use Rattle.measures.specs.declared.account.Account.{Account}
-use Rattle.measures.specs.declared.site.Site.{Site}
+use Rattle.std.proofs.Common.{◌≡◌, [], ◌∷◌, Some, refl, ap, ◌∙◌}
 use Rattle.measures.specs.Decay.{decayed, weight_after}
 use Rattle.measures.specs.Shares.{share_of, equal_part}
 use Rattle.measures.specs.Commitments.{mixed, commitment_after}

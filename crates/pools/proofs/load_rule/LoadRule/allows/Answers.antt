@@ -9,16 +9,10 @@ bounds : (rule : LoadRule) (a : Amounts) → Within (total a) max_amounts → Wi
 bounds rule a small = terms_bounded (test_within rule.weights_in_range) small
 
 pub overflow_add-load : goal.overflow_add-load
-overflow_add-load c =
-    let b = bounds c.args.self c.args.amounts (record { w0 = search rules; w1 = search rules; w2 = search rules; w3 = search rules }) in
-    omega arith
+overflow_add-load c = let b = bounds c.args.self c.args.amounts (search rules) in omega arith
 
 pub overflow_add-load-2 : goal.overflow_add-load-2
-overflow_add-load-2 c =
-    let b = bounds c.args.self c.args.amounts (record { w0 = search rules; w1 = search rules; w2 = search rules; w3 = search rules }) in
-    omega arith
+overflow_add-load-2 c = let b = bounds c.args.self c.args.amounts (search rules) in omega arith
 
 pub overflow_add-load-3 : goal.overflow_add-load-3
-overflow_add-load-3 c =
-    let b = bounds c.args.self c.args.amounts (record { w0 = search rules; w1 = search rules; w2 = search rules; w3 = search rules }) in
-    omega arith
+overflow_add-load-3 c = let b = bounds c.args.self c.args.amounts (search rules) in omega arith
