@@ -42,11 +42,11 @@ pub fn memory_of_a_house() -> Option<[u32; 5]>
     let measure = Stateful::over(site);
     let busy = Account {
         past: PastRecord::new(),
-        holding: Holding::of(capacity),
+        holding: Holding::from(capacity),
     };
     let idle = Account {
         past: measure.bring(&busy, 1_568),
-        holding: Holding::of(Amounts::ZERO),
+        holding: Holding::from(Amounts::ZERO),
     };
     Some([
         site.commitment(&busy, 1, 0),

@@ -63,7 +63,7 @@ impl Watch {
                 let Some(house) = &mut self.house else {
                     return HouseReply::NoHouse;
                 };
-                match house.hold(tick, Holding::of(amounts)) {
+                match house.hold(tick, Holding::from(amounts)) {
                     Ok(()) => HouseReply::Held,
                     Err(NotHeld::Earlier(last)) => HouseReply::Earlier(last),
                     Err(NotHeld::NoMemory) => HouseReply::NoMemory,

@@ -2,7 +2,7 @@
 use crate::holding::Holding;
 use crate::past_record::PastRecord;
 
-#[derive(Clone, Copy)]
+#[derive(Clone, Copy, PartialEq, Eq, Debug)]
 pub struct Account {
     pub past: PastRecord,
     pub holding: Holding,

@@ -5,7 +5,7 @@ use pools::amounts::SUPPLIES;
 
 mod methods;
 
-#[derive(Clone, Copy)]
+#[derive(Clone, Copy, PartialEq, Eq, Debug)]
 pub struct PastRecord {
     pub(crate) commitments: [u32; SUPPLIES],
     pub(crate) stamp: u64,

@@ -6,11 +6,12 @@ ghost use Rattle.std.proofs.Math.Nat.{le_refl};
 
 use crate::account::Account;
 use crate::dated_measure::DatedMeasure;
+use crate::greatest;
 use crate::measure::Measure;
 use crate::past_record::PastRecord;
 use crate::site::Site;
 
-#[derive(Clone, Copy)]
+#[derive(Clone, Copy, PartialEq, Eq, Debug)]
 pub struct Plain {
     site: Site,
 }
@@ -47,11 +48,10 @@ impl Measure for Plain {
     }
 
     fn level(&self, account: &Account, _tick: u64) -> u32 {
-        let mut greatest = 0;
-        for supply in 0..self.site.supplies() {
-            greatest = self.site.share(&account.holding, supply).max(greatest);
-        }
-        greatest
+        greatest(
+            &self.site,
+            |supply| self.site.share(&account.holding, supply),
+        )
     }
 
     fn bring(&self, account: &Account, _tick: u64) -> PastRecord {

@@ -6,7 +6,7 @@ use pools::amounts::Amounts;
 mod standing;
 
 // The capacities, how many supplies are in use, and the part that is due to each house.
-#[derive(Clone, Copy)]
+#[derive(Clone, Copy, PartialEq, Eq, Debug)]
 pub struct Site {
     capacity: Amounts,
     supplies: usize,

@@ -6,11 +6,12 @@ ghost use Rattle.std.proofs.Common.{ap};
 
 use crate::account::Account;
 use crate::dated_measure::DatedMeasure;
+use crate::greatest;
 use crate::measure::Measure;
 use crate::past_record::PastRecord;
 use crate::site::Site;
 
-#[derive(Clone, Copy)]
+#[derive(Clone, Copy, PartialEq, Eq, Debug)]
 pub struct Stateful {
     site: Site,
 }
@@ -47,13 +48,10 @@ impl Measure for Stateful {
     }
 
     fn level(&self, account: &Account, tick: u64) -> u32 {
-        let mut greatest = 0;
-        for supply in 0..self.site.supplies() {
-            let commitment = self.site.commitment(account, tick, supply);
-            let standing = self.site.share(&account.holding, supply) + commitment;
-            greatest = standing.max(greatest);
-        }
-        greatest
+        greatest(
+            &self.site,
+            |supply| self.site.standing(account, tick, supply),
+        )
     }
 
     fn bring(&self, account: &Account, tick: u64) -> PastRecord {
@@ -75,28 +73,16 @@ impl DatedMeasure for Stateful {
     ghost highest_stays_after_the_last_tick = { λ m. highest_clock m.site };
 
     fn lowest(&self, account: &Account, one: u64, other: u64) -> u32 {
-        let mut greatest = 0;
-        for supply in 0..self.site.supplies() {
-            let smaller = self
-                .site
-                .commitment(account, one, supply)
-                .min(self.site.commitment(account, other, supply));
-            let standing = self.site.share(&account.holding, supply) + smaller;
-            greatest = standing.max(greatest);
-        }
-        greatest
+        greatest(&self.site, |supply| {
+            let standing = self.site.standing(account, one, supply);
+            standing.min(self.site.standing(account, other, supply))
+        })
     }
 
     fn highest(&self, account: &Account, one: u64, other: u64) -> u32 {
-        let mut greatest = 0;
-        for supply in 0..self.site.supplies() {
-            let larger = self
-                .site
-                .commitment(account, one, supply)
-                .max(self.site.commitment(account, other, supply));
-            let standing = self.site.share(&account.holding, supply) + larger;
-            greatest = standing.max(greatest);
-        }
-        greatest
+        greatest(&self.site, |supply| {
+            let standing = self.site.standing(account, one, supply);
+            standing.max(self.site.standing(account, other, supply))
+        })
     }
 }

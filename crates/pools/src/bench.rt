@@ -18,8 +18,8 @@ pub struct Bench {
 impl Bench {
     // A new bench: nothing is in use.
     pub fn new(capacity: Amounts) -> Bench
-        ensures permits_within_its_capacities { bench_terms (total result.capacity) ≡ bench_terms (total capacity) }
-        ensures starts_unused { total result.used ≡ nothing }
+        ensures permits_within_its_capacities { ⟦<Bench as Pool>⟧.terms result ≡ bench_terms (total capacity) }
+        ensures starts_unused { ⟦<Bench as Pool>⟧.used result ≡ nothing }
     {
         Bench {
             capacity,

@@ -27,8 +27,8 @@ impl<P: Pool> LoadLimit<P> {
     // Lays a load limit over a new pool. A refusal hands the pool back.
     pub fn over(below: P, asked: LoadRequest) -> Result<LoadLimit<P>, RefusedLayer<P>>
         ensures refused_if_out_of_range_or_the_pool_is_in_use { fault_of result ≡ layer_fault (in_range (of_array asked.weights) asked.limit) (is_within (P.Pool.used below) nothing) }
-        ensures permits_up_to_the_limit { IfOk result (λ s. limit_meaning P.Pool s ≡ limit_terms (P.Pool.terms below) (of_array asked.weights) asked.limit) }
-        ensures starts_unused { IfOk result (λ s. P.Pool.used s.below ≡ nothing) }
+        ensures permits_up_to_the_limit { IfOk result (λ s. ⟦<LoadLimit<P> as Pool>⟧.terms s ≡ limit_terms (P.Pool.terms below) (of_array asked.weights) asked.limit) }
+        ensures starts_unused { IfOk result (λ s. ⟦<LoadLimit<P> as Pool>⟧.used s ≡ nothing) }
         ensures refused_pool_comes_back { IfErr result (λ e. e.pool ≡ below) }
     {
         let judged = LoadRule::try_from(asked).and_then(|rule| below.check_unused().map(|()| rule));

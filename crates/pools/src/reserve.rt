@@ -20,8 +20,8 @@ impl<P: Pool> Reserve<P> {
     // Lays a reserve over a new pool. A refusal hands the pool back.
     pub fn over(below: P, held: Amounts) -> Result<Reserve<P>, RefusedLayer<P>>
         ensures refused_if_it_does_not_fit_or_the_pool_is_in_use { fault_of result ≡ layer_fault (admits (P.Pool.terms below) (P.Pool.used below) (total held)) (is_within (P.Pool.used below) nothing) }
-        ensures permits_what_fits_with_the_reserve { IfOk result (λ s. reserve_meaning P.Pool s ≡ reserve_terms (P.Pool.terms below) (total held)) }
-        ensures starts_unused { IfOk result (λ s. P.Pool.used s.below ≡ nothing) }
+        ensures permits_what_fits_with_the_reserve { IfOk result (λ s. ⟦<Reserve<P> as Pool>⟧.terms s ≡ reserve_terms (P.Pool.terms below) (total held)) }
+        ensures starts_unused { IfOk result (λ s. ⟦<Reserve<P> as Pool>⟧.used s ≡ nothing) }
         ensures refused_pool_comes_back { IfErr result (λ e. e.pool ≡ below) }
     {
         if !below.fits(held) {

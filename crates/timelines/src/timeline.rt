@@ -27,7 +27,7 @@ pub fn new_account() -> Account
 {
     Account {
         past: PastRecord::new(),
-        holding: Holding::of(Amounts::ZERO),
+        holding: Holding::from(Amounts::ZERO),
     }
 }
 

@@ -21,10 +21,7 @@ impl PastRecord {
         ensures recorded_in_the_supply { result ≡ slice_index self.now.commitments supply }
         ensures at_most_the_whole { result ≤ 1048576 }
     {
-        match self.commitments.get(supply) {
-            Some(recorded) => *recorded,
-            None => 0,
-        }
+        self.commitments.get(supply).copied().unwrap_or(0)
     }
 
     // The tick at which it was recorded.

@@ -5,6 +5,7 @@ ghost use Rattle.pools.specs.declared.amounts.Amounts.{Amounts};
 ghost use Rattle.measures.specs.Clock.{on_clock};
 ghost use Rattle.measures.specs.Sites.{made_of, share_in, part_due, excess_in, commitment_in};
 ghost use Rattle.measures.specs.Records.{brought_to};
+ghost use Rattle.measures.specs.Levels.{standing};
 
 use crate::account::Account;
 use crate::clock::on_clock;
@@ -79,6 +80,7 @@ impl Site {
     pub fn bring(&self, account: &Account, tick: u64) -> PastRecord
         ensures commitments_at_the_tick_stamped_with_it { result ≡ brought_to self.now account.now tick }
     {
+        // (Tried as a map over the four numbers: `map` forgets between two calls what its closure borrows.)
         PastRecord {
             commitments: [
                 self.commitment(account, tick, 0),
@@ -88,5 +90,12 @@ impl Site {
             ],
             stamp: on_clock(tick),
         }
+    }
+
+    // Share plus commitment at a tick.
+    pub(crate) fn standing(&self, account: &Account, tick: u64, supply: usize) -> u32
+        ensures share_plus_commitment { result ≡ standing self.now account.now tick supply }
+    {
+        self.share(&account.holding, supply) + self.commitment(account, tick, supply)
     }
 }

@@ -19,8 +19,8 @@ returns c =
     let part = c.equal_part.ensures.whole_over_the_seats_rounded_down ∙ ap equal_part c.in_ok-new.ensures in
     let site : c.in_ok-site.site ≡ small_site = same_site c.in_ok-site.site small_site (c.in_ok-site.ensures.made_exactly_with_one_to_four_supplies.1 ∙ (λ i. (record { each = 4 ∷ 0 ∷ 0 ∷ 0 ∷ [] }, 1, part i))) in
     let measured = c.over-measure.ensures.measures_the_given_site ∙ site in
-    let holds : record { past = c.new-3.result; holding = c.of.result } ≡ busy = (λ i. record { past = c.new-3.ensures.starts_with_nothing_at_tick_zero i; holding = c.of.ensures.holds_the_demand i }) in
-    let gave : record { past = c.bring.result; holding = c.of-2.result } ≡ idle = (λ i. record { past = (c.bring.ensures.record_brought_to_the_tick ∙ (λ j. brought_to (measured j) (holds j) 1568)) i; holding = c.of-2.ensures.holds_the_demand i }) in
+    let holds : record { past = c.new-3.result; holding = c.from.result } ≡ busy = (λ i. record { past = c.new-3.ensures.starts_with_nothing_at_tick_zero i; holding = c.from.ensures i }) in
+    let gave : record { past = c.bring.result; holding = c.from-2.result } ≡ idle = (λ i. record { past = (c.bring.ensures.record_brought_to_the_tick ∙ (λ j. brought_to (measured j) (holds j) 1568)) i; holding = c.from-2.ensures i }) in
     let one = c.commitment.ensures.commitment_at_the_tick ∙ (λ i. commitment_in (site i) (part_due (site i) (holds i)) (holds i) 1 0) ∙ figures.after_one_tick in
     let two = c.commitment-2.ensures.commitment_at_the_tick ∙ (λ i. commitment_in (site i) (part_due (site i) (holds i)) (holds i) 2 0) ∙ figures.after_two_ticks in
     let full = c.commitment-3.ensures.commitment_at_the_tick ∙ (λ i. commitment_in (site i) (part_due (site i) (holds i)) (holds i) 1568 0) ∙ figures.when_full in

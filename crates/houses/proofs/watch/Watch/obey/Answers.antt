@@ -8,6 +8,6 @@ pub returns-in-Ok : goal.returns-in-Ok
 returns-in-Ok c =
     let house = c.in-Some-house.house in
     let done = c.in-Ok.ensures in
-    let course = done.notes_the_change ∙ ap (λ h. course_of house ++ change_at (brought_under (kind_of house) (site_of house)) (course_of house) c.in-Hold.tick h ∷ []) c.of.ensures.holds_the_demand in
+    let course = done.notes_the_change ∙ ap (λ h. course_of house ++ change_at (brought_under (kind_of house) (site_of house)) (course_of house) c.in-Hold.tick h ∷ []) c.from.ensures in
     let state : state_of c.hold.new.self ≡ with_change c.in-Hold.tick c.in-Hold.amounts (state_of house) = (λ i. record { kind = done.keeps_its_kind i; site = done.keeps_its_site i; course = course i }) in
     search rules

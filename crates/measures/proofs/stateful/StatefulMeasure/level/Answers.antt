@@ -1,14 +1,7 @@
 use Rattle.std.proofs.Common.{rules}
-use Rattle.measures.specs.Levels.{stateful_level}
-use Rattle.measures.specs.GreatestLaws.{greatest_none, greatest_more, greatest_all}
+use Rattle.measures.specs.Levels.{standing, stateful_level}
 use Rattle.measures.proofs.stateful.StatefulMeasure.level.Goals as goal
-
-pub loop-supply-init : goal.loop-supply-init
-loop-supply-init c = search (rules, greatest_none)
-
-pub loop-supply-preserved : goal.loop-supply-preserved
-loop-supply-preserved c = search (rules, greatest_more)
 
 pub returns : goal.returns
 unfolding stateful_level
-returns c = search (rules, greatest_all)
+returns c = record { level_at_the_tick = c.greatest.ensures.greatest_of_the_supplies_in_use (standing c.args.self.now.site c.args.account.now c.args.tick) (λ s y given. search rules) }
