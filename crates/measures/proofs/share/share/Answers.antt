@@ -13,9 +13,6 @@ computed : (c : goal.After-min-held) → c.min-held.result * 1048576 / c.args.ca
 unfolding share_of
 computed c = search rules
 
-pub overflow_cast-result-3 : goal.overflow_cast-result-3
-overflow_cast-result-3 c = omega (arith, computed c, share_most c.args.amount c.args.capacity)
-
 pub returns : goal.returns
 returns c = record {
   amount_in_the_capacity_rounded_down = computed c;

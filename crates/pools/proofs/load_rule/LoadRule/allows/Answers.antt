@@ -8,11 +8,5 @@ use Rattle.pools.proofs.load_rule.LoadRule.allows.Goals as goal
 bounds : (rule : LoadRule) (a : Amounts) → Within (total a) max_amounts → Within (in_each ◌*◌ (of_array rule.weights) (total a)) (uniform (2 ^ 42))
 bounds rule a small = terms_bounded (test_within rule.weights_in_range) small
 
-pub overflow_add-load : goal.overflow_add-load
-overflow_add-load c = let b = bounds c.args.self c.args.amounts (search rules) in omega arith
-
-pub overflow_add-load-2 : goal.overflow_add-load-2
-overflow_add-load-2 c = let b = bounds c.args.self c.args.amounts (search rules) in omega arith
-
 pub overflow_add-load-3 : goal.overflow_add-load-3
 overflow_add-load-3 c = let b = bounds c.args.self c.args.amounts (search rules) in omega arith
