@@ -1,5 +1,5 @@
 // How an account stands in each supply of a site.
-ghost use Rattle.std.specs.Prelude.{◌≡◌, ℕ, ◌+◌, ◌≤◌, min, max, slice_index};
+ghost use Rattle.std.specs.Prelude.{◌≡◌, ℕ, ◌+◌, ◌≤◌, [], ◌∷◌, map, min, max, slice_index};
 ghost use Rattle.std.specs.Option.{SomeIff, option_map};
 ghost use Rattle.pools.specs.declared.amounts.Amounts.{Amounts};
 ghost use Rattle.measures.specs.Clock.{on_clock};
@@ -15,6 +15,7 @@ use crate::past_record::PastRecord;
 use crate::share::{excess, share};
 use crate::site::Site;
 use pools::amounts::{Amounts, SUPPLIES};
+use std::array;
 
 impl Site {
     // A site that uses one to four supplies; none for any other number of them.
@@ -80,16 +81,16 @@ impl Site {
     pub fn bring(&self, account: &Account, tick: u64) -> PastRecord
         ensures commitments_at_the_tick_stamped_with_it { result ≡ brought_to self.now account.now tick }
     {
-        // (Tried as a map over the four numbers: `map` forgets between two calls what its closure borrows.)
         PastRecord {
-            commitments: [
-                self.commitment(account, tick, 0),
-                self.commitment(account, tick, 1),
-                self.commitment(account, tick, 2),
-                self.commitment(account, tick, 3),
-            ],
+            commitments: self.commitments(account, tick),
             stamp: on_clock(tick),
         }
+    }
+
+    fn commitments(&self, account: &Account, tick: u64) -> [u32; SUPPLIES]
+        ensures commitment_in_each_supply { result ≡ map (commitment_in self.now (part_due self.now account.now) account.now tick) (0 ∷ 1 ∷ 2 ∷ 3 ∷ []) }
+    {
+        array::from_fn(|supply| self.commitment(account, tick, supply))
     }
 
     // Share plus commitment at a tick.
