@@ -12,13 +12,13 @@ pub enum NewLayer {
     LoadLimit(LoadRequest),
 }
 
-#[derive(Clone, Copy)]
+#[derive(Clone, Copy, PartialEq, Eq, Debug)]
 pub struct LoadRequest {
     pub limit: u64,
     pub weights: [u32; SUPPLIES],
 }
 
-#[derive(Clone, Copy)]
+#[derive(Clone, Copy, PartialEq, Eq, Debug)]
 pub enum Obstacle {
     // There is no place for one layer more.
     NoPlace,
