@@ -57,7 +57,7 @@ impl From<Obstacle> for Refusal {
     fn from(obstacle: Obstacle) -> Refusal {
         match obstacle {
             Obstacle::NoPlace => Refusal::NoPlace,
-            Obstacle::Refused(fault) => Refusal::Refused(fault),
+            Obstacle::Refused(fault) => fault.into(),
         }
     }
 }
