@@ -16,10 +16,12 @@ use pools::bench::Bench;
 use site_scripts::program::{Desk, Said, run};
 use std::alloc::{AllocError, Global};
 
+// A bench with up to four layers.
+type Site = Slot<Slot<Slot<Slot<Bench>>>>;
+
 #[derive(Drop)]
 struct SiteDesk {
-    // The site is a bench with up to four layers.
-    session: Session<Slot<Slot<Slot<Slot<Bench>>>>>,
+    session: Session<Site>,
 }
 
 impl Desk for SiteDesk {

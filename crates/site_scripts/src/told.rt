@@ -63,14 +63,14 @@ impl fmt::Display for Told {
                 f,
                 "refused with {}: {}",
                 fault.number(),
-                words_of(fault, self.command)
+                reason_of(fault, self.command)
             ),
         }
     }
 }
 
-// The refusal of a command in words.
-fn words_of(fault: PoolFault, command: Command) -> &'static str {
+// Why a command was refused, in words.
+fn reason_of(fault: PoolFault, command: Command) -> &'static str {
     match (fault, command) {
         (PoolFault::BadLayer, Command::Lay(NewLayer::Reserve(_))) => {
             "the reserve does not fit the site"
