@@ -10,6 +10,8 @@ use Rattle.commands.specs.declared.layer.NewLayer.TheVariants.{Reserve, LoadLimi
 use Rattle.commands.specs.declared.layer.Obstacle.{Obstacle}
 use Rattle.commands.specs.declared.layer.Obstacle.TheVariants.{NoPlace, Refused}
 use Rattle.commands.specs.declared.layer.NotLaid.{NotLaid}
+use Rattle.commands.specs.declared.command.Refusal.{Refusal}
+use Rattle.commands.specs.declared.command.Refusal.TheVariants as refusal
 
 -- the terms of a layer over a pool
 abbrev pub laid : Terms → NewLayer → Terms
@@ -33,3 +35,8 @@ lay_obstacle (suc places) m used layer = pool_obstacle m used layer
 abbrev pub obstacle_of : {S T : Type 0} → Result S (NotLaid T) → Option Obstacle
 obstacle_of (Ok s) = None
 obstacle_of (Err e) = Some e.obstacle
+
+-- how an obstacle is told
+abbrev pub refusal_of : Obstacle → Refusal
+refusal_of NoPlace = refusal.NoPlace
+refusal_of (Refused fault) = refusal.Refused fault

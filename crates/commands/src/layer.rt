@@ -13,7 +13,7 @@ pub enum NewLayer {
     LoadLimit(LoadRequest),
 }
 
-#[derive(Clone, Copy)]
+#[derive(Clone, Copy, PartialEq, Eq, Debug)]
 pub enum Obstacle {
     // There is no place for one layer more.
     NoPlace,

@@ -5,8 +5,8 @@ ghost use Rattle.pools.specs.Totals.{total};
 ghost use Rattle.commands.specs.declared.command.Command.TheVariants.{Lay};
 ghost use Rattle.commands.specs.Sessions.{SiteState, known, free_places, PermittedUse, reply_to, known_after, leaves, PlacesAfter, used_now, capacity_now};
 
-use crate::command::{Command, Reply};
-use crate::layer::{NewLayer, Obstacle};
+use crate::command::{Answer, Command, Refusal, Reply};
+use crate::layer::NewLayer;
 use crate::stack::Stack;
 use pools::amounts::Amounts;
 
@@ -40,41 +40,28 @@ impl<S: Stack + Drop> Session<S> {
         match command {
             Command::Site(capacity) => {
                 self.site = Some(S::bare(capacity));
-                Reply::SiteLaidOut
+                Ok(Answer::SiteLaidOut)
             }
             Command::Lay(layer) => self.lay(layer),
             Command::Take(demand) => {
-                let Some(site) = &mut self.site else {
-                    return Reply::NoSite;
-                };
-                match site.take(demand) {
-                    Ok(()) => Reply::Taken,
-                    Err(fault) => Reply::Refused(fault),
-                }
+                self.site.as_mut().ok_or(Refusal::NoSite)?.take(demand)?;
+                Ok(Answer::Taken)
             }
             Command::GiveBack(demand) => {
-                let Some(site) = &mut self.site else {
-                    return Reply::NoSite;
-                };
-                match site.give_back(demand) {
-                    Ok(()) => Reply::GivenBack,
-                    Err(fault) => Reply::Refused(fault),
-                }
+                self.site
+                    .as_mut()
+                    .ok_or(Refusal::NoSite)?
+                    .give_back(demand)?;
+                Ok(Answer::GivenBack)
             }
             Command::Fits(demand) => {
-                let Some(site) = &self.site else {
-                    return Reply::NoSite;
-                };
-                if site.fits(demand) {
-                    Reply::Fits
-                } else {
-                    Reply::DoesNotFit
-                }
+                let site = self.site.as_ref().ok_or(Refusal::NoSite)?;
+                Ok(Answer::Fits(site.fits(demand)))
             }
-            Command::Used => match &self.site {
-                Some(_) => Reply::UsedTotal,
-                None => Reply::NoSite,
-            },
+            Command::Used => {
+                self.site.as_ref().ok_or(Refusal::NoSite)?;
+                Ok(Answer::UsedTotal)
+            }
         }
     }
 
@@ -82,26 +69,23 @@ impl<S: Stack + Drop> Session<S> {
         ensures used_total { total result.used ≡ used_now (known S.Pool self.now) }
         ensures capacity_of_terms { total result.capacity ≡ capacity_now (known S.Pool self.now) }
     {
-        match &self.site {
-            Some(site) => Status {
-                used: site.used(),
-                capacity: site.capacity(),
-            },
-            None => Status {
+        self.site.as_ref().map_or(
+            Status {
                 used: Amounts::ZERO,
                 capacity: Amounts::ZERO,
             },
-        }
+            |site| Status {
+                used: site.used(),
+                capacity: site.capacity(),
+            },
+        )
     }
 
     // The capacity of the site, if there is one.
     pub fn capacity(&self) -> Option<Amounts>
         ensures capacity_of_the_site_if_any { option_map total result ≡ option_map (λ (k : SiteState). k.terms.capacity) (known S.Pool self.now) }
     {
-        match &self.site {
-            Some(site) => Some(site.capacity()),
-            None => None,
-        }
+        self.site.as_ref().map(|site| site.capacity())
     }
 
     // Lays a layer over the site, and puts the site back as it was if that is refused.
@@ -112,20 +96,15 @@ impl<S: Stack + Drop> Session<S> {
         ensures use_stays_permitted { PermittedUse (known S.Pool self.old) → PermittedUse (known S.Pool self.new) }
         ensures question_or_refusal_changes_nothing { leaves result ≡ true → self.new ≡ self.old }
     {
-        let Some(site) = self.site.take() else {
-            return Reply::NoSite;
-        };
+        let site = self.site.take().ok_or(Refusal::NoSite)?;
         match site.lay(layer) {
             Ok(laid) => {
                 self.site = Some(laid);
-                Reply::LayerLaid(layer)
+                Ok(Answer::LayerLaid(layer))
             }
             Err(refused) => {
                 self.site = Some(refused.stack);
-                match refused.obstacle {
-                    Obstacle::NoPlace => Reply::NoPlace,
-                    Obstacle::Refused(fault) => Reply::Refused(fault),
-                }
+                Err(refused.obstacle.into())
             }
         }
     }

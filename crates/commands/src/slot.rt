@@ -105,14 +105,17 @@ fn cover<P: Pool>(pool: P, layer: NewLayer) -> Result<Slot<P>, NotLaid<P>>
     }
 }
 
-// A stack that was handed back, in the free slot that it came from.
-fn still_free<P: Pool>(back: NotLaid<P>) -> NotLaid<Slot<P>>
-    ensures same_obstacle { result.obstacle ≡ back.obstacle }
-    ensures same_stack { result.stack ≡ Free back.stack }
-{
-    NotLaid {
-        obstacle: back.obstacle,
-        stack: Slot::Free(back.stack),
+impl<S> NotLaid<S> {
+    // The same refusal, with what `f` makes of the stack.
+    fn map<T, F: FnOnce(S) -> T>(self, f: F) -> NotLaid<T>
+        requires takes_the_stack { F.pre f self.stack }
+        ensures same_obstacle { result.obstacle ≡ self.obstacle }
+        ensures made_of_the_stack { F.post f self.stack result.stack }
+    {
+        NotLaid {
+            obstacle: self.obstacle,
+            stack: f(self.stack),
+        }
     }
 }
 
@@ -133,18 +136,13 @@ impl<P: Stack> Stack for Slot<P> {
                 stack: self,
             });
         };
-        match below.lay(layer) {
-            Ok(laid) => Ok(Slot::Free(laid)),
-            Err(
-                NotLaid {
-                    obstacle: Obstacle::NoPlace,
-                    stack,
-                },
-            ) => match cover(stack, layer) {
-                Ok(covered) => Ok(covered),
-                Err(refused) => Err(still_free(refused)),
-            },
-            Err(refused) => Err(still_free(refused)),
-        }
+        below
+            .lay(layer)
+            .map(Slot::Free)
+            .or_else(|refused| match refused.obstacle {
+                Obstacle::NoPlace => cover(refused.stack, layer),
+                Obstacle::Refused(_) => Err(refused),
+            })
+            .map_err(|refused| refused.map(Slot::Free))
     }
 }

@@ -1,13 +1,17 @@
 // A line of a script, carried out.
 ghost use Rattle.std.specs.Prelude.{◌≡◌, None};
 ghost use Rattle.commands.specs.Sessions.{known, free_places};
-ghost use Rattle.desk.specs.Lines.{commanded, known_after_line, Tells};
+ghost use Rattle.site_scripts.specs.Lines.{known_after_line};
+ghost use Rattle.desk.specs.Lines.{commanded, Tells};
 
-use crate::outcome::{Outcome, Told};
-use crate::script::Mistake;
 use commands::command::Command;
 use commands::session::Session;
 use commands::stack::Stack;
+use site_scripts::mistake::Mistake;
+use site_scripts::told::Told;
+
+// What comes of a line: nothing where it has no command.
+pub type Outcome<'a> = Result<Option<Told>, Mistake<'a>>;
 
 pub fn carry<'a, S: Stack + Drop>(
     session: &mut Session<S>,
@@ -17,17 +21,8 @@ pub fn carry<'a, S: Stack + Drop>(
     ensures mistake_changes_nothing { commanded line.entry ≡ None → session.new ≡ session.old }
     ensures tells_what_was_done { Tells (free_places S.Stack.places session.old) (known S.Pool session.old) (known S.Pool session.new) line.entry result }
 {
-    match line {
-        Ok(None) => Outcome::Blank,
-        Ok(Some(command)) => {
-            let reply = session.obey(command);
-            let status = session.status();
-            Outcome::Obeyed(Told {
-                command,
-                reply,
-                status,
-            })
-        }
-        Err(mistake) => Outcome::Mistaken(mistake),
-    }
+    let Some(command) = line? else {
+        return Ok(None);
+    };
+    Ok(Some(Told::of(session, command)))
 }

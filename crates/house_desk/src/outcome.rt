@@ -1,24 +1,15 @@
 // What comes of a line of a script.
-use commands::command::{Command, Reply};
-use commands::session::Status;
 use houses::command::{HouseCommand, HouseReply};
 use scripts::mistake::Mistake;
+use site_scripts::told::Told as SiteTold;
+
+// Nothing where the line has no command.
+pub type Outcome<'a> = Result<Option<Told>, Mistake<'a>>;
 
 #[derive(Clone, Copy)]
-pub enum Outcome<'a> {
-    // The line has no command.
-    Blank,
+pub enum Told {
     Site(SiteTold),
     House(HouseTold),
-    Mistaken(Mistake<'a>),
-}
-
-// A command about the site with its reply, and how the site stands after it.
-#[derive(Clone, Copy)]
-pub struct SiteTold {
-    pub command: Command,
-    pub reply: Reply,
-    pub status: Status,
 }
 
 // A command about a house with its reply.

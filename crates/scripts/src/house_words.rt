@@ -1,13 +1,13 @@
 // Commands about a house.
 ghost use Rattle.std.specs.Prelude.{◌≡◌, ℕ, ◌≤◌, List, IfOk, codes};
 ghost use Rattle.std.specs.Borrow.{Bor};
-ghost use Rattle.scripts.specs.Numbers.{decimal_value};
+ghost use Rattle.site_scripts.specs.Numbers.{decimal_value};
 ghost use Rattle.scripts.specs.Words.{kind_word, SaysHouse, name_of_house};
 
 use crate::mistake::Mistake;
-use crate::numbers::{amounts, number, small_number};
 use houses::command::{HouseCommand, Span, Ticks};
 use houses::kind::Kind;
+use site_scripts::numbers::{amounts, number, small_number};
 
 // The most ticks that are shown at once.
 pub const MOST_ROWS: u64 = 1_000;

@@ -3,7 +3,5 @@
 
 pub mod house_words;
 pub mod mistake;
-pub mod numbers;
 pub mod request;
 pub mod script;
-pub mod site_words;

@@ -1,19 +1,14 @@
 // Why a line is not understood, and how that is told.
+ghost use Rattle.std.specs.Prelude.{◌≡◌};
+ghost use Rattle.scripts.specs.declared.mistake.Mistake.TheVariants.{Site};
+
 use crate::house_words::MOST_ROWS;
+use site_scripts::mistake::Mistake as SiteMistake;
 use std::fmt;
 
-#[derive(Clone, Copy)]
+#[derive(Clone, Copy, PartialEq, Eq, Debug)]
 pub enum Mistake<'a> {
-    NotText,
-    UnknownCommand(&'a str),
-    NoNumbers,
-    TooManyNumbers,
-    NotANumber(&'a str),
-    TooLarge(TooLarge<'a>),
-    // `limit` lacks its number or the word `weights`.
-    NoWeights,
-    // A word follows a command that stands alone.
-    Unexpected(&'a str),
+    Site(SiteMistake<'a>),
     // `house` lacks its measure or its seats, or has more than these.
     NoMeasureAndSeats,
     UnknownMeasure(&'a str),
@@ -31,31 +26,22 @@ pub enum Mistake<'a> {
     TooManyRows,
 }
 
-// A number, and the largest that may stand in its place.
-#[derive(Clone, Copy)]
-pub struct TooLarge<'a> {
-    pub word: &'a str,
-    pub most: u64,
+impl<'a> From<SiteMistake<'a>> for Mistake<'a> {
+    ghost from_gives = { λ of_site mistake. mistake ≡ Site of_site };
+
+    fn from(of_site: SiteMistake<'a>) -> Mistake<'a> {
+        Mistake::Site(of_site)
+    }
 }
 
 impl fmt::Display for Mistake<'_> {
     fn fmt<W: fmt::Write>(&self, f: &mut fmt::Formatter<W>) -> fmt::Result {
         match self {
-            Mistake::NotText => write!(f, "the line is not UTF-8 text"),
-            Mistake::UnknownCommand(word) => write!(
+            Mistake::Site(SiteMistake::UnknownCommand(word)) => write!(
                 f,
                 "there is no command {word:?}; there are site, reserve, limit, take, give, fits, used, house, at, show and curve"
             ),
-            Mistake::NoNumbers => write!(f, "one to four numbers are wanted"),
-            Mistake::TooManyNumbers => write!(f, "there are more than four numbers"),
-            Mistake::NotANumber(word) => write!(f, "{word:?} is not a decimal number"),
-            Mistake::TooLarge(number) => {
-                let word = number.word;
-                let most = number.most;
-                write!(f, "{word:?} is above {most}")
-            }
-            Mistake::NoWeights => write!(f, "write `limit NUMBER weights` and the weights"),
-            Mistake::Unexpected(word) => write!(f, "{word:?} is not wanted here"),
+            Mistake::Site(mistake) => write!(f, "{mistake}"),
             Mistake::NoMeasureAndSeats => write!(
                 f,
                 "write `house stateful SEATS` or `house plain SEATS`"

@@ -1,9 +1,8 @@
 // Numbers in a script.
-ghost use Rattle.std.specs.Prelude.{◌≡◌, ℕ, true, List, IfOk, ◌==◌, slice_index};
+ghost use Rattle.std.specs.Prelude.{◌≡◌, ℕ, List, IfOk};
 ghost use Rattle.std.specs.Borrow.{Bor};
-ghost use Rattle.std.specs.Str.{all_ascii_digits};
 ghost use Rattle.pools.specs.Totals.{total, of_array};
-ghost use Rattle.scripts.specs.Numbers.{decimal_value, numbers};
+ghost use Rattle.site_scripts.specs.Numbers.{Writes, numbers};
 
 use crate::mistake::{Mistake, TooLarge};
 use pools::amounts::{Amounts, SUPPLIES};
@@ -16,8 +15,9 @@ pub fn amounts<'a>(words: &[&'a str]) -> Result<Amounts, Mistake<'a>>
     Ok(Amounts { each })
 }
 
-// One to four numbers, for supplies 0, 1 and so on; those left out are 0.
-pub fn one_to_four<'a>(words: &[&'a str]) -> Result<[u32; SUPPLIES], Mistake<'a>>
+// One to four numbers, for supplies 0, 1 and so on; those left out are 0. A case for each count is plainer than a loop,
+// which would test the count apart and need an invariant.
+pub(crate) fn one_to_four<'a>(words: &[&'a str]) -> Result<[u32; SUPPLIES], Mistake<'a>>
     ensures numbers_in_order { IfOk result (λ each. ((d : Bor (List ℕ)) → of_array each ≡ numbers d words.now)) }
 {
     match words {
@@ -36,42 +36,29 @@ pub fn one_to_four<'a>(words: &[&'a str]) -> Result<[u32; SUPPLIES], Mistake<'a>
 }
 
 pub fn small_number<'a>(word: &'a str) -> Result<u32, Mistake<'a>>
-    ensures has_the_value_of_its_digits { IfOk result (λ n. (all_ascii_digits word.now ≡ true) × (n ≡ decimal_value word.now)) }
+    ensures has_the_value_of_its_digits { IfOk result (Writes word.now) }
 {
-    match u32::try_from(number(word)?) {
-        Ok(n) => Ok(n),
-        Err(_) => Err(Mistake::TooLarge(TooLarge {
+    u32::try_from(number(word)?).map_err(|_| {
+        Mistake::TooLarge(TooLarge {
             word,
             most: u32::MAX as u64,
-        })),
-    }
+        })
+    })
 }
 
 // Decimal digits and nothing else.
 pub fn number<'a>(word: &'a str) -> Result<u64, Mistake<'a>>
-    ensures has_the_value_of_its_digits { IfOk result (λ n. (all_ascii_digits word.now ≡ true) × (n ≡ decimal_value word.now)) }
+    ensures has_the_value_of_its_digits { IfOk result (Writes word.now) }
 {
     // A number of the library may begin with a plus.
-    if begins_with_plus(word) {
+    if word.starts_with('+') {
         return Err(Mistake::NotANumber(word));
     }
-    match word.parse::<u64>() {
-        Ok(n) => Ok(n),
-        Err(e) => match e.kind() {
-            IntErrorKind::PosOverflow => Err(Mistake::TooLarge(TooLarge {
-                word,
-                most: u64::MAX,
-            })),
-            _ => Err(Mistake::NotANumber(word)),
-        },
-    }
-}
-
-fn begins_with_plus(word: &str) -> bool
-    ensures first_byte_is_a_plus { result ≡ (slice_index word.now 0 == 43) }
-{
-    match word.as_bytes().first() {
-        Some(first) => *first == b'+',
-        None => false,
-    }
+    word.parse::<u64>().map_err(|error| match error.kind() {
+        IntErrorKind::PosOverflow => Mistake::TooLarge(TooLarge {
+            word,
+            most: u64::MAX,
+        }),
+        _ => Mistake::NotANumber(word),
+    })
 }

@@ -1,7 +1,7 @@
 // Commands about the site.
 ghost use Rattle.std.specs.Prelude.{◌≡◌, ℕ, List, length, IfOk, OnOk};
 ghost use Rattle.std.specs.Borrow.{Bor};
-ghost use Rattle.scripts.specs.Words.{SaysLoad, name_of_site, SaysSite};
+ghost use Rattle.site_scripts.specs.Words.{SaysLoad, SaysSite, name_of_site, Asks};
 
 use crate::mistake::Mistake;
 use crate::numbers::{amounts, number, one_to_four};
@@ -11,7 +11,7 @@ use pools::load_request::LoadRequest;
 
 // The command with this name, from the words after it.
 pub fn site_command<'a>(name: &'a str, rest: &[&'a str]) -> Result<Command, Mistake<'a>>
-    ensures command_is_what_the_words_say { IfOk result (λ c. (name.now ≡ name_of_site c) × ((d : Bor (List ℕ)) → SaysSite d rest.now c)) }
+    ensures command_is_what_the_words_say { IfOk result (Asks name_of_site SaysSite name.now rest.now) }
 {
     match name {
         "site" => Ok(Command::Site(amounts(rest)?)),
