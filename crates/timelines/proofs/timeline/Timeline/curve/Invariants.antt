@@ -7,10 +7,10 @@ use Rattle.timelines.proofs.timeline.Timeline.curve.Given as goal
 abbrev pub invariant-loop-begin : goal.invariant-loop-begin
 invariant-loop-begin g l =
     record {
-      begun : l.first ≤ l.begin;
-      covered : (k : ℕ) → l.first ≤ k → k < l.begin → Covered (λ t. g.M.Measure.level l.self.measure (account_at (vec_items l.self.stretches) t) t) (vec_items l.columns) k;
-      tight : All (IsTight (g.M.DatedMeasure.lowest l.self.measure) (g.M.DatedMeasure.highest l.self.measure) (account_at (vec_items l.self.stretches)) l.first l.last) (vec_items l.columns);
+      begun : l.span.first ≤ l.begin;
+      covered : (k : ℕ) → l.span.first ≤ k → k < l.begin → Covered (λ t. g.M.Measure.level l.self.measure (account_at (vec_items l.self.stretches) t) t) (vec_items l.columns) k;
+      tight : All (IsTight (g.M.DatedMeasure.lowest l.self.measure) (g.M.DatedMeasure.highest l.self.measure) (account_at (vec_items l.self.stretches)) l.span.first l.span.last) (vec_items l.columns);
     }
 
 abbrev pub decreases-loop-begin : goal.decreases-loop-begin
-decreases-loop-begin g l = (l.last + 1) - l.begin
+decreases-loop-begin g l = (l.span.last + 1) - l.begin
