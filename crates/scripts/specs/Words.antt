@@ -6,9 +6,8 @@ use Rattle.commands.specs.declared.layer.NewLayer.TheVariants.{Reserve, LoadLimi
 use Rattle.commands.specs.declared.layer.LoadRequest.{LoadRequest}
 use Rattle.commands.specs.declared.command.Command.{Command}
 use Rattle.commands.specs.declared.command.Command.TheVariants.{Site, Lay, Take, GiveBack, Fits, Used}
-use Rattle.houses.specs.declared.kind.Kind.{Kind}
-use Rattle.houses.specs.declared.kind.Kind.TheVariants.{Stateful, Plain}
-use Rattle.houses.specs.declared.command.Span.{Span}
+use Rattle.timelines.specs.declared.span.Span.{Span}
+use Rattle.houses.specs.Kinds.{kind_word}
 use Rattle.houses.specs.declared.command.Ticks.{Ticks}
 use Rattle.houses.specs.declared.command.HouseCommand.{HouseCommand}
 use Rattle.houses.specs.declared.command.HouseCommand.TheVariants.{Follow, Hold, Show, Curve}
@@ -52,10 +51,6 @@ name_of_site (Take demand) = codes "take"
 name_of_site (GiveBack demand) = codes "give"
 name_of_site (Fits demand) = codes "fits"
 name_of_site Used = codes "used"
-
-abbrev pub kind_word : Kind → List ℕ
-kind_word Stateful = codes "stateful"
-kind_word Plain = codes "plain"
 
 -- the first tick, the word `to` and the last
 pub record SaysSpan (d : Bor (List ℕ)) (words : Words) (span : Span) : Type 0 where

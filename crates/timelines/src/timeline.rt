@@ -60,8 +60,8 @@ impl Error for NotHeld {}
 impl<T: Drop> From<AllocFailed<T>> for NotHeld {
     ghost from_gives = { λ _ reason. reason ≡ NoMemory };
 
-    fn from(_failed: AllocFailed<T>) -> NotHeld {
-        NotHeld::NoMemory
+    fn from(_failed: AllocFailed<T>) -> Self {
+        Self::NoMemory
     }
 }
 
