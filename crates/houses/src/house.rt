@@ -26,6 +26,7 @@ use timelines::span::Span;
 use timelines::stretch::{Column, Snapshot};
 use timelines::timeline::{NotHeld, Timeline};
 
+// The timelines have different types, and a `dyn` may not be handed out: so each method is a match over the two.
 #[derive(Drop)]
 pub enum House {
     Stateful(Timeline<Stateful>),

@@ -1,5 +1,6 @@
 // The measures that can be chosen.
-ghost use Rattle.houses.specs.Kinds.{Names};
+ghost use Rattle.std.specs.Prelude.{Some};
+ghost use Rattle.houses.specs.Kinds.{kind_word, Names};
 
 use std::error::Error;
 use std::fmt;
@@ -30,6 +31,8 @@ impl FromStr for Kind {
 }
 
 impl fmt::Display for Kind {
+    ghost output = { λ kind. Some (kind_word kind) };
+
     fn fmt<W: fmt::Write>(&self, f: &mut fmt::Formatter<W>) -> fmt::Result {
         f.write_str(match self {
             Kind::Stateful => "stateful",

@@ -36,15 +36,13 @@ impl<M: DatedMeasure> Timeline<M> {
         };
         let width = span.column_width();
         let mut columns = Vec::new(heap);
-        let mut begin = span.first;
-        while begin <= span.last {
+        for begin in (span.first..=span.last).step_by(width as usize) {
             let ticks = Span {
                 first: begin,
                 last: begin.saturating_add(width - 1).min(span.last),
             };
             let range = self.level_range(ticks);
             columns.push(Column { span: ticks, range })?;
-            begin = ticks.last + 1;
         }
         Ok(columns)
     }

@@ -158,6 +158,7 @@ impl<M: DatedMeasure> Timeline<M> {
         let start = self.in_force(span.first);
         let mut end = start.until.min(span.last);
         let mut range = self.over(&start.account, span.first, end);
+        // A turn begins where the account of the one before ends, which no range of ticks tells beforehand.
         while end < span.last {
             let begin = end + 1;
             let next = self.in_force(begin);
