@@ -1,11 +1,11 @@
 // What the desk prints of a house.
-use crate::curve_page::curve_page;
+use crate::curve_page::add_curve;
 use crate::outcome::HouseTold;
+use crate::page::Page;
 use crate::print::Four;
-use crate::table_page::table_page;
-use houses::command::{HouseCommand, HouseReply};
+use crate::table_page::add_table;
+use houses::command::{HouseCommand, HouseRefusal};
 use houses::house::House;
-use houses::kind::Kind;
 use measures::share::{WHOLE, equal_part};
 use std::alloc::{AllocError, Global};
 use std::num::NonZeroU32;
@@ -16,62 +16,37 @@ pub fn house_text(
     told: HouseTold,
     house: Option<&House>,
 ) -> Result<String, AllocError> {
-    match told.reply {
-        HouseReply::Followed | HouseReply::Held | HouseReply::Shown => match house {
-            Some(house) => page(heap, number, told.command, house),
-            None => no_house(heap, number),
-        },
-        HouseReply::NoSite => format!(in heap; "{number}: no site yet: begin with `site`"),
-        HouseReply::NoSeats => {
-            format!(in heap; "{number}: turned down: a house is one of one or more")
+    let mut page = Page::new(heap, number);
+    match (told.reply, house) {
+        (Ok(_), Some(house)) => add_answer(&mut page, told.command, house)?,
+        (Ok(_), None) | (Err(HouseRefusal::NoHouse), _) => {
+            page.line("no house yet: begin with `house`")?
         }
-        HouseReply::NoHouse => no_house(heap, number),
-        HouseReply::Earlier(last) => {
-            format!(in heap; "{number}: turned down: the last change is at tick {last}")
+        (Err(HouseRefusal::NoSite), _) => page.line("no site yet: begin with `site`")?,
+        (Err(HouseRefusal::NoSeats), _) => {
+            page.line("turned down: a house is one of one or more")?
         }
-        HouseReply::NoMemory => format!(in heap; "{number}: turned down: no memory is left"),
+        (Err(HouseRefusal::NotHeld(reason)), _) => {
+            page.line(format_args!("turned down: {reason}"))?
+        }
     }
+    Ok(page.into_text())
 }
 
-fn no_house(heap: Global, number: u64) -> Result<String, AllocError> {
-    format!(in heap; "{number}: no house yet: begin with `house`")
-}
-
-// The word for a measure, as scripts write it.
-pub fn measure_word(kind: Kind) -> &'static str {
-    match kind {
-        Kind::Stateful => "stateful",
-        Kind::Plain => "plain",
-    }
-}
-
-fn page(
-    heap: Global,
-    number: u64,
-    command: HouseCommand,
-    house: &House,
-) -> Result<String, AllocError> {
+fn add_answer(page: &mut Page, command: HouseCommand, house: &House) -> Result<(), AllocError> {
     match command {
-        HouseCommand::Follow(kind, seats) => {
-            let measure = measure_word(kind);
-            let part = part_of(seats);
-            format!(in heap;
-                "{number}: {measure} house, one of {seats}; its part is {part} of {WHOLE}"
-            )
+        HouseCommand::Follow(measure, seats) => {
+            // There is a house only of one or more.
+            let part = NonZeroU32::new(seats).map_or(0, equal_part);
+            page.line(format_args!(
+                "{measure} house, one of {seats}; its part is {part} of {WHOLE}"
+            ))
         }
         HouseCommand::Hold(tick, amounts) => {
             let held = Four(amounts.each);
-            format!(in heap; "{number}: from tick {tick} on it holds {held}")
+            page.line(format_args!("from tick {tick} on it holds {held}"))
         }
-        HouseCommand::Show(ticks) => table_page(heap, number, ticks, house),
-        HouseCommand::Curve(span) => curve_page(heap, number, span, house),
-    }
-}
-
-// The part of each of so many seats. There is a house only of one or more.
-fn part_of(seats: u32) -> u32 {
-    match NonZeroU32::new(seats) {
-        Some(seats) => equal_part(seats),
-        None => 0,
+        HouseCommand::Show(ticks) => add_table(page, ticks, house),
+        HouseCommand::Curve(span) => add_curve(page, span, house),
     }
 }

@@ -5,6 +5,7 @@ pub mod carry_out;
 mod curve_page;
 mod house_page;
 pub mod outcome;
+mod page;
 pub mod print;
 mod table_page;
 

@@ -1,57 +1,37 @@
 // A house in figures: a line for each tick and supply.
+use crate::page::Page;
 use houses::command::Ticks;
 use houses::house::House;
-use std::alloc::{AllocError, Global};
-use timelines::stretch::Snapshot;
+use std::alloc::AllocError;
+use timelines::span::Span;
+use timelines::stretch::Standing;
 
-pub fn table_page(
-    heap: Global,
-    number: u64,
-    ticks: Ticks,
-    house: &House,
-) -> Result<String, AllocError> {
-    let mut text = format!(in heap;
-        "{number}:       tick      level supply      share     excess commitment"
-    )?;
-    let supplies = house.site().supplies();
-    let mut tick = ticks.span.first;
-    let rows = ticks.span.last.saturating_sub(tick) / ticks.step.max(1);
-    for _ in 0..=rows {
-        add_rows(
-            heap,
-            &mut text,
-            number,
-            tick,
-            supplies,
-            house.snapshot(tick),
-        )?;
-        tick = tick.saturating_add(ticks.step);
+pub fn add_table(page: &mut Page, ticks: Ticks, house: &House) -> Result<(), AllocError> {
+    page.line("      tick      level supply      share     excess commitment")?;
+    let Span { first, last } = ticks.span;
+    for tick in (first..=last).step_by(ticks.step.max(1) as usize) {
+        add_tick(page, tick, house)?;
     }
-    Ok(text)
+    Ok(())
 }
 
 // Tick and level stand in the line of the first supply alone.
-fn add_rows(
-    heap: Global,
-    text: &mut String,
-    number: u64,
-    tick: u64,
-    supplies: usize,
-    snapshot: Snapshot,
-) -> Result<(), AllocError> {
+fn add_tick(page: &mut Page, tick: u64, house: &House) -> Result<(), AllocError> {
+    let supplies = house.site().supplies();
+    let snapshot = house.snapshot(tick);
     let level = snapshot.level;
-    for supply in 0..supplies.min(4) {
-        let share = snapshot.shares[supply];
-        let excess = snapshot.excesses[supply];
-        let commitment = snapshot.commitments[supply];
-        let head = if supply == 0 {
-            format!(in heap; "{tick:>10} {level:>10}")?
+    for (supply, standing) in snapshot.supplies.iter().enumerate().take(supplies) {
+        let Standing {
+            share,
+            excess,
+            commitment,
+        } = *standing;
+        let figures = format_args!("{supply:>6} {share:>10} {excess:>10} {commitment:>10}");
+        if supply == 0 {
+            page.line(format_args!("{tick:>10} {level:>10} {figures}"))?;
         } else {
-            format!(in heap; "{:>21}", "")?
-        };
-        text.push_str(format!(in heap;
-            "\n{number}: {head} {supply:>6} {share:>10} {excess:>10} {commitment:>10}"
-        )?.as_str())?;
+            page.line(format_args!("{:>21} {figures}", ""))?;
+        }
     }
     Ok(())
 }

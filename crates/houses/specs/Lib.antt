@@ -1,2 +1,3 @@
 pub mod Houses
+pub mod Kinds
 pub mod Watches

@@ -1,5 +1,5 @@
 -- The desk by what it knows of the house that is followed, and what each command does.
-use Rattle.std.specs.Prelude.{◌≡◌, ℕ, zero, suc, ◌<◌, ◌≤◌, Bool, true, false, List, [], ◌∷◌, ◌++◌, Some, None, Option}
+use Rattle.std.specs.Prelude.{◌≡◌, ℕ, zero, suc, ◌<◌, ◌≤◌, Bool, true, false, List, [], ◌∷◌, ◌++◌, Some, None, Ok, Err, Option, Result}
 use Rattle.std.specs.Option.{option_map}
 use Rattle.pools.specs.declared.amounts.Amounts.{Amounts}
 use Rattle.pools.specs.Totals.{total}
@@ -9,14 +9,17 @@ use Rattle.measures.specs.Shares.{equal_part}
 use Rattle.measures.specs.Holdings.{holding_of}
 use Rattle.measures.specs.Sites.{made_of}
 use Rattle.timelines.specs.declared.stretch.Stretch.{Stretch}
+use Rattle.timelines.specs.declared.timeline.NotHeld.TheVariants.{Earlier, NoMemory}
 use Rattle.timelines.specs.Courses.{last_change}
 use Rattle.timelines.specs.Changes.{change_at}
 use Rattle.houses.specs.declared.kind.Kind.{Kind}
 use Rattle.houses.specs.declared.house.House.{House}
 use Rattle.houses.specs.declared.command.HouseCommand.{HouseCommand}
 use Rattle.houses.specs.declared.command.HouseCommand.TheVariants.{Follow, Hold, Show, Curve}
-use Rattle.houses.specs.declared.command.HouseReply.{HouseReply}
-use Rattle.houses.specs.declared.command.HouseReply.TheVariants.{Followed, Held, Shown, NoSite, NoSeats, NoHouse, Earlier, NoMemory}
+use Rattle.houses.specs.declared.command.HouseAnswer.{HouseAnswer}
+use Rattle.houses.specs.declared.command.HouseAnswer.TheVariants.{Followed, Held, Shown}
+use Rattle.houses.specs.declared.command.HouseRefusal.{HouseRefusal}
+use Rattle.houses.specs.declared.command.HouseRefusal.TheVariants.{NoSite, NoSeats, NoHouse, NotHeld}
 use Rattle.houses.specs.declared.watch.Watch.{Watch}
 use Rattle.houses.specs.Houses.{supplies_in_use, kind_of, site_of, course_of, brought_under}
 
@@ -33,27 +36,23 @@ abbrev pub watched : Watch → Option HouseState
 watched w = option_map state_of w.house
 
 -- the reply to a change: it is turned down exactly when it is earlier than the last one; only memory may be wanting besides
-abbrev pub HoldReply : ℕ → ℕ → HouseReply → Type 0
-HoldReply last t Followed = ⊥
-HoldReply last t Held = last ≤ t
-HoldReply last t Shown = ⊥
-HoldReply last t NoSite = ⊥
-HoldReply last t NoSeats = ⊥
-HoldReply last t NoHouse = ⊥
-HoldReply last t (Earlier n) = (t < last) × (n ≡ last)
-HoldReply last t NoMemory = last ≤ t
+abbrev pub HoldReply : ℕ → ℕ → Result HouseAnswer HouseRefusal → Type 0
+HoldReply last t (Ok Held) = last ≤ t
+HoldReply last t (Err (NotHeld (Earlier n))) = (t < last) × (n ≡ last)
+HoldReply last t (Err (NotHeld NoMemory)) = last ≤ t
+HoldReply last t _ = ⊥
 
 -- the reply to a command, by the capacities of the site, if there is one, and the house that was followed before
-abbrev pub Replies : Option Amounts → Option HouseState → HouseCommand → HouseReply → Type 0
-Replies None before (Follow k seats) r = r ≡ NoSite
-Replies (Some capacity) before (Follow k zero) r = r ≡ NoSeats
-Replies (Some capacity) before (Follow k (suc n)) r = r ≡ Followed
-Replies capacity None (Hold t amounts) r = r ≡ NoHouse
+abbrev pub Replies : Option Amounts → Option HouseState → HouseCommand → Result HouseAnswer HouseRefusal → Type 0
+Replies None before (Follow k seats) r = r ≡ Err NoSite
+Replies (Some capacity) before (Follow k zero) r = r ≡ Err NoSeats
+Replies (Some capacity) before (Follow k (suc n)) r = r ≡ Ok Followed
+Replies capacity None (Hold t amounts) r = r ≡ Err NoHouse
 Replies capacity (Some h) (Hold t amounts) r = HoldReply (last_change h.course) (on_clock t) r
-Replies capacity None (Show ticks) r = r ≡ NoHouse
-Replies capacity (Some h) (Show ticks) r = r ≡ Shown
-Replies capacity None (Curve span) r = r ≡ NoHouse
-Replies capacity (Some h) (Curve span) r = r ≡ Shown
+Replies capacity None (Show ticks) r = r ≡ Err NoHouse
+Replies capacity (Some h) (Show ticks) r = r ≡ Ok Shown
+Replies capacity None (Curve span) r = r ≡ Err NoHouse
+Replies capacity (Some h) (Curve span) r = r ≡ Ok Shown
 
 -- a new house of a site: nothing has changed yet
 pub record Fresh (capacity : Amounts) (k : Kind) (seats : ℕ) (h : HouseState) : Type 0 where
@@ -74,36 +73,17 @@ with_change t amounts h = record {
   course = h.course ++ change_at (brought_under h.kind h.site) h.course t (holding_of (total amounts)) ∷ [];
 }
 
--- what is followed after a command that got this reply
-abbrev pub AfterHeld : Option HouseState → HouseCommand → Option HouseState → Type 0
-AfterHeld before (Follow k seats) after = ⊥
-AfterHeld before (Hold t amounts) after = after ≡ option_map (with_change t amounts) before
-AfterHeld before (Show ticks) after = ⊥
-AfterHeld before (Curve span) after = ⊥
-
-abbrev pub AfterFollowed : Option Amounts → HouseCommand → Option HouseState → Type 0
-AfterFollowed capacity (Follow k seats) after = Starts capacity k seats after
-AfterFollowed capacity (Hold t amounts) after = ⊥
-AfterFollowed capacity (Show ticks) after = ⊥
-AfterFollowed capacity (Curve span) after = ⊥
-
-abbrev pub After : Option Amounts → Option HouseState → HouseCommand → HouseReply → Option HouseState → Type 0
-After capacity before command Followed after = AfterFollowed capacity command after
-After capacity before command Held after = AfterHeld before command after
-After capacity before command Shown after = after ≡ before
-After capacity before command NoSite after = after ≡ before
-After capacity before command NoSeats after = after ≡ before
-After capacity before command NoHouse after = after ≡ before
-After capacity before command (Earlier n) after = after ≡ before
-After capacity before command NoMemory after = after ≡ before
+-- what is followed after a command that got this reply; one that is turned down changes nothing
+abbrev pub After : Option Amounts → Option HouseState → HouseCommand → Result HouseAnswer HouseRefusal → Option HouseState → Type 0
+After capacity before (Follow k seats) (Ok a) after = (a ≡ Followed) × Starts capacity k seats after
+After capacity before (Hold t amounts) (Ok a) after = (a ≡ Held) × (after ≡ option_map (with_change t amounts) before)
+After capacity before (Show ticks) (Ok a) after = (a ≡ Shown) × (after ≡ before)
+After capacity before (Curve span) (Ok a) after = (a ≡ Shown) × (after ≡ before)
+After capacity before command (Err refusal) after = after ≡ before
 
 -- a question, and a command that is turned down, leave the house as it was
-abbrev pub leaves_house : HouseReply → Bool
-leaves_house Followed = false
-leaves_house Held = false
-leaves_house Shown = true
-leaves_house NoSite = true
-leaves_house NoSeats = true
-leaves_house NoHouse = true
-leaves_house (Earlier n) = true
-leaves_house NoMemory = true
+abbrev pub leaves_house : Result HouseAnswer HouseRefusal → Bool
+leaves_house (Ok Followed) = false
+leaves_house (Ok Held) = false
+leaves_house (Ok Shown) = true
+leaves_house (Err refusal) = true

@@ -1,6 +1,11 @@
 // What can be asked about a house, and what is answered.
+ghost use Rattle.std.specs.Prelude.{◌≡◌};
+ghost use Rattle.houses.specs.declared.command.HouseRefusal.TheVariants as refusal;
+
 use crate::kind::Kind;
 use pools::amounts::Amounts;
+use timelines::span::Span;
+use timelines::timeline::NotHeld;
 
 #[derive(Clone, Copy)]
 pub enum HouseCommand {
@@ -12,33 +17,41 @@ pub enum HouseCommand {
     Curve(Span),
 }
 
-// Ticks from the first to the last, ends included.
-#[derive(Clone, Copy)]
-pub struct Span {
-    pub first: u64,
-    pub last: u64,
-}
-
 // The ticks of a span that are shown: the first, and every so many ticks after it.
-#[derive(Clone, Copy)]
+#[derive(Clone, Copy, PartialEq, Eq, Debug)]
 pub struct Ticks {
     pub span: Span,
     pub step: u64,
 }
 
-#[derive(Clone, Copy)]
-pub enum HouseReply {
+// What a command did.
+#[derive(Clone, Copy, PartialEq, Eq, Debug)]
+pub enum HouseAnswer {
     Followed,
     Held,
     // The answer to a question: the caller reads the house.
     Shown,
+}
+
+// Why a command did nothing.
+#[derive(Clone, Copy, PartialEq, Eq, Debug)]
+pub enum HouseRefusal {
     // There is no site yet.
     NoSite,
     // A house cannot be one of none.
     NoSeats,
     // No house is followed yet.
     NoHouse,
-    // The change is earlier than the last one, at this tick.
-    Earlier(u64),
-    NoMemory,
+    // The change was not noted.
+    NotHeld(NotHeld),
 }
+
+impl From<NotHeld> for HouseRefusal {
+    ghost from_gives = { λ reason given. given ≡ refusal.NotHeld reason };
+
+    fn from(reason: NotHeld) -> Self {
+        Self::NotHeld(reason)
+    }
+}
+
+pub type HouseReply = Result<HouseAnswer, HouseRefusal>;

@@ -22,9 +22,11 @@ use measures::stateful::Stateful;
 use pools::amounts::Amounts;
 use std::alloc::{AllocError, Global};
 use std::num::NonZeroU32;
+use timelines::span::Span;
 use timelines::stretch::{Column, Snapshot};
 use timelines::timeline::{NotHeld, Timeline};
 
+// The timelines have different types, and a `dyn` may not be handed out: so each method is a match over the two.
 #[derive(Drop)]
 pub enum House {
     Stateful(Timeline<Stateful>),
@@ -36,16 +38,11 @@ fn supplies_in_use(capacity: Amounts) -> usize
     ensures up_to_the_last_with_a_capacity { result ≡ supplies_in_use (total capacity) }
     ensures one_to_four_supplies { (1 ≤ result) × (result ≤ 4) }
 {
-    let [_, b, c, d] = capacity.each;
-    if d > 0 {
-        4
-    } else if c > 0 {
-        3
-    } else if b > 0 {
-        2
-    } else {
-        1
-    }
+    capacity
+        .each
+        .iter()
+        .rposition(|amount| *amount > 0)
+        .map_or(1, |last| last + 1)
 }
 
 impl House {
@@ -55,9 +52,7 @@ impl House {
         ensures stands_at_the_site { made_of (site_of result) ≡ (capacity, supplies_in_use (total capacity), equal_part (non_zero_u32_get seats)) }
         ensures starts_without_a_change { course_of result ≡ [] }
     {
-        let Some(site) = Site::new(capacity, supplies_in_use(capacity), equal_part(seats)) else {
-            unreachable()
-        };
+        let site = Site::new(capacity, supplies_in_use(capacity), equal_part(seats)).unwrap();
         match kind {
             Kind::Stateful => House::Stateful(Timeline::new(heap, Stateful::over(site))),
             Kind::Plain => House::Plain(Timeline::new(heap, Plain::over(site))),
@@ -106,13 +101,13 @@ impl House {
     }
 
     // The level from the first tick to the last, in columns.
-    pub fn curve(&self, heap: Global, first: u64, last: u64) -> Result<Vec<Column>, AllocError>
-        ensures columns_hide_no_level { IfOk result (λ v. ((k : ℕ) → first ≤ k → k ≤ on_clock last → Covered (λ t. level_under (kind_of self.now) (site_of self.now) (account_at (course_of self.now) t) t) v.items k)) }
-        ensures columns_are_no_wider_than_the_measure_tells { IfOk result (λ v. All (IsTight (lowest_under (kind_of self.now) (site_of self.now)) (highest_under (kind_of self.now) (site_of self.now)) (account_at (course_of self.now)) first (on_clock last)) v.items) }
+    pub fn curve(&self, heap: Global, span: Span) -> Result<Vec<Column>, AllocError>
+        ensures columns_hide_no_level { IfOk result (λ v. ((k : ℕ) → span.first ≤ k → k ≤ on_clock span.last → Covered (λ t. level_under (kind_of self.now) (site_of self.now) (account_at (course_of self.now) t) t) v.items k)) }
+        ensures columns_are_no_wider_than_the_measure_tells { IfOk result (λ v. All (IsTight (lowest_under (kind_of self.now) (site_of self.now)) (highest_under (kind_of self.now) (site_of self.now)) (account_at (course_of self.now)) span.first (on_clock span.last)) v.items) }
     {
         match self {
-            House::Stateful(line) => line.curve(heap, first, last),
-            House::Plain(line) => line.curve(heap, first, last),
+            House::Stateful(line) => line.curve(heap, span),
+            House::Plain(line) => line.curve(heap, span),
         }
     }
 }

@@ -3,13 +3,12 @@ ghost use Rattle.std.specs.Prelude.{◌≡◌, true, None};
 ghost use Rattle.std.specs.Option.{option_map};
 ghost use Rattle.houses.specs.Watches.{watched, Replies, After, leaves_house};
 
-use crate::command::{HouseCommand, HouseReply};
+use crate::command::{HouseAnswer, HouseCommand, HouseRefusal, HouseReply};
 use crate::house::House;
 use measures::holding::Holding;
 use pools::amounts::Amounts;
 use std::alloc::Global;
 use std::num::NonZeroU32;
-use timelines::timeline::NotHeld;
 
 #[derive(Drop)]
 pub struct Watch {
@@ -50,29 +49,20 @@ impl Watch {
     {
         match command {
             HouseCommand::Follow(kind, seats) => {
-                let Some(capacity) = capacity else {
-                    return HouseReply::NoSite;
-                };
-                let Some(seats) = NonZeroU32::new(seats) else {
-                    return HouseReply::NoSeats;
-                };
+                let capacity = capacity.ok_or(HouseRefusal::NoSite)?;
+                let seats = NonZeroU32::new(seats).ok_or(HouseRefusal::NoSeats)?;
                 self.house = Some(House::new(heap, kind, capacity, seats));
-                HouseReply::Followed
+                Ok(HouseAnswer::Followed)
             }
             HouseCommand::Hold(tick, amounts) => {
-                let Some(house) = &mut self.house else {
-                    return HouseReply::NoHouse;
-                };
-                match house.hold(tick, Holding::from(amounts)) {
-                    Ok(()) => HouseReply::Held,
-                    Err(NotHeld::Earlier(last)) => HouseReply::Earlier(last),
-                    Err(NotHeld::NoMemory) => HouseReply::NoMemory,
-                }
+                let house = self.house.as_mut().ok_or(HouseRefusal::NoHouse)?;
+                house.hold(tick, Holding::from(amounts))?;
+                Ok(HouseAnswer::Held)
             }
-            HouseCommand::Show(_) | HouseCommand::Curve(_) => match &self.house {
-                Some(_) => HouseReply::Shown,
-                None => HouseReply::NoHouse,
-            },
+            HouseCommand::Show(_) | HouseCommand::Curve(_) => {
+                self.house().ok_or(HouseRefusal::NoHouse)?;
+                Ok(HouseAnswer::Shown)
+            }
         }
     }
 }

@@ -4,18 +4,13 @@ use Rattle.std.specs.Borrow.{Bor}
 use Rattle.pools.specs.Totals.{of_array}
 use Rattle.site_scripts.specs.Numbers.{decimal_value, numbers}
 use Rattle.site_scripts.specs.Words.{Words, word_at, words_after, SaysSite, name_of_site}
-use Rattle.houses.specs.declared.kind.Kind.{Kind}
-use Rattle.houses.specs.declared.kind.Kind.TheVariants.{Stateful, Plain}
-use Rattle.houses.specs.declared.command.Span.{Span}
+use Rattle.timelines.specs.declared.span.Span.{Span}
+use Rattle.houses.specs.Kinds.{kind_word}
 use Rattle.houses.specs.declared.command.Ticks.{Ticks}
 use Rattle.houses.specs.declared.command.HouseCommand.{HouseCommand}
 use Rattle.houses.specs.declared.command.HouseCommand.TheVariants.{Follow, Hold, Show, Curve}
 use Rattle.scripts.specs.declared.request.Request.{Request}
 use Rattle.scripts.specs.declared.request.Request.TheVariants.{Site, House}
-
-abbrev pub kind_word : Kind → List ℕ
-kind_word Stateful = codes "stateful"
-kind_word Plain = codes "plain"
 
 -- the first tick, the word `to` and the last
 pub record SaysSpan (d : Bor (List ℕ)) (words : Words) (span : Span) : Type 0 where

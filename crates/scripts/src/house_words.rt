@@ -2,12 +2,14 @@
 ghost use Rattle.std.specs.Prelude.{◌≡◌, ℕ, ◌≤◌, List, IfOk, codes};
 ghost use Rattle.std.specs.Borrow.{Bor};
 ghost use Rattle.site_scripts.specs.Numbers.{decimal_value};
-ghost use Rattle.scripts.specs.Words.{kind_word, SaysHouse, name_of_house};
+ghost use Rattle.houses.specs.Kinds.{kind_word};
+ghost use Rattle.scripts.specs.Words.{SaysHouse, name_of_house};
 
 use crate::mistake::Mistake;
-use houses::command::{HouseCommand, Span, Ticks};
+use houses::command::{HouseCommand, Ticks};
 use houses::kind::Kind;
 use site_scripts::numbers::{amounts, number, small_number};
+use timelines::span::Span;
 
 // The most ticks that are shown at once.
 pub const MOST_ROWS: u64 = 1_000;
@@ -25,11 +27,7 @@ pub fn follow<'a>(words: &[&'a str]) -> Result<HouseCommand, Mistake<'a>>
 fn kind<'a>(word: &'a str) -> Result<Kind, Mistake<'a>>
     ensures measure_that_the_word_names { IfOk result (λ k. word.now ≡ kind_word k) }
 {
-    match word {
-        "stateful" => Ok(Kind::Stateful),
-        "plain" => Ok(Kind::Plain),
-        _ => Err(Mistake::UnknownMeasure(word)),
-    }
+    word.parse().map_err(|_| Mistake::UnknownMeasure(word))
 }
 
 // The tick, the word `hold` and what is held from then on.

@@ -1,9 +1,15 @@
 -- Bounds that a measure tells, carried from turn to turn.
-use Rattle.std.proofs.Common.{◌≡◌, ℕ, ◌≤◌, min, max, ap, ◌∙◌, subst, ⊎_elim, arith}
+use Rattle.std.proofs.Common.{◌≡◌, ℕ, ◌≤◌, ◌⊎◌, inl, inr, min, max, sym, ap, ◌∙◌, subst, ⊎_elim, arith}
 use Rattle.std.proofs.lemmas.Bool.{cases_lt}
 use Rattle.measures.specs.declared.account.Account.{Account}
 use Rattle.timelines.specs.declared.stretch.LevelRange.{LevelRange}
 use Rattle.timelines.specs.Views.{ToldWithin, NoWider}
+
+min_either : (a b n : ℕ) → n ≡ min a b → (n ≡ a) ⊎ (n ≡ b)
+min_either a b n is = ⊎_elim (λ h. inl (omega (arith, is, h))) (λ h. inr (omega (arith, is, h))) (cases_lt a b)
+
+max_either : (a b n : ℕ) → n ≡ max a b → (n ≡ a) ⊎ (n ≡ b)
+max_either a b n is = ⊎_elim (λ h. inr (omega (arith, is, h))) (λ h. inl (omega (arith, is, h))) (cases_lt a b)
 
 module _ (bound : Account → ℕ → ℕ → ℕ) (account : ℕ → Account) (first : ℕ) where
   -- a longer span has what a shorter one had
@@ -22,26 +28,16 @@ module _ (bound : Account → ℕ → ℕ → ℕ) (account : ℕ → Account) (
     told = tells ∙ ap (λ (a : Account). bound a begin last) is;
   }
 
-  module _ (last later a b n : ℕ) (longer : last ≤ later) (old : ToldWithin bound account first last a) (new : ToldWithin bound account first later b) where
-    pub told_smaller : n ≡ min a b → ToldWithin bound account first later n
-    told_smaller is =
-        let P : ℕ → Type 0 = ToldWithin bound account first later in
-        ⊎_elim
-        (λ h. let e : a ≡ n = omega (arith, is) in subst P e (told_longer last later a longer old))
-        (λ h. let e : b ≡ n = omega (arith, is) in subst P e new)
-        (cases_lt a b)
-
-    pub told_larger : n ≡ max a b → ToldWithin bound account first later n
-    told_larger is =
-        let P : ℕ → Type 0 = ToldWithin bound account first later in
-        ⊎_elim
-        (λ h. let e : b ≡ n = omega (arith, is) in subst P e new)
-        (λ h. let e : a ≡ n = omega (arith, is) in subst P e (told_longer last later a longer old))
-        (cases_lt a b)
+  -- of two bounds that are told the one or the other is
+  pub told_either : (last later a b n : ℕ) → last ≤ later → ToldWithin bound account first last a → ToldWithin bound account first later b → (n ≡ a) ⊎ (n ≡ b) → ToldWithin bound account first later n
+  told_either last later a b n longer old new =
+      ⊎_elim
+      (λ is. subst (ToldWithin bound account first later) (sym is) (told_longer last later a longer old))
+      (λ is. subst (ToldWithin bound account first later) (sym is) new)
 
 -- a range over a span, and one over the ticks that follow, joined
 pub no_wider_joined : (low high : Account → ℕ → ℕ → ℕ) (account : ℕ → Account) (first last later : ℕ) (r s t : LevelRange) → last ≤ later → NoWider low high account first last r → NoWider low high account first later s → t.lowest ≡ min r.lowest s.lowest → t.highest ≡ max r.highest s.highest → NoWider low high account first later t
 no_wider_joined low high account first last later r s t longer old new smaller larger = record {
-  low_is_told = told_smaller low account first last later r.lowest s.lowest t.lowest longer old.low_is_told new.low_is_told smaller;
-  high_is_told = told_larger high account first last later r.highest s.highest t.highest longer old.high_is_told new.high_is_told larger;
+  low_is_told = told_either low account first last later r.lowest s.lowest t.lowest longer old.low_is_told new.low_is_told (min_either r.lowest s.lowest t.lowest smaller);
+  high_is_told = told_either high account first last later r.highest s.highest t.highest longer old.high_is_told new.high_is_told (max_either r.highest s.highest t.highest larger);
 }

@@ -1,5 +1,6 @@
 -- The course of a house: stretches, in the order of their ticks, each with the account that is in force from its tick on.
-use Rattle.std.specs.Prelude.{ℕ, cond, List, [], ◌∷◌, nat_le}
+use Rattle.std.specs.Prelude.{◌≡◌, ℕ, ◌<◌, ◌≤◌, cond, List, [], ◌∷◌, ◌++◌, nat_le}
+use Rattle.std.specs.List.{All}
 use Rattle.pools.specs.Totals.{nothing}
 use Rattle.measures.specs.declared.account.Account.{Account}
 use Rattle.measures.specs.Holdings.{holding_of}
@@ -25,3 +26,9 @@ change_from before (x ∷ xs) = change_from x.from xs
 
 abbrev pub last_change : List Stretch → ℕ
 last_change xs = change_from 0 xs
+
+-- of the stretches xs, ys have begun by the tick t, and zs have not
+pub record IsCut (xs ys zs : List Stretch) (t : ℕ) : Type 0 where
+  pub whole : xs ≡ ys ++ zs
+  pub begun : All (λ (s : Stretch). s.from ≤ t) ys
+  pub not_begun : All (λ (s : Stretch). t < s.from) zs

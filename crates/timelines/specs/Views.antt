@@ -1,18 +1,24 @@
 -- What is shown of a house.
-use Rattle.std.specs.Prelude.{◌≡◌, ℕ, ◌<◌, ◌≤◌, List, length, slice_index_or}
+use Rattle.std.specs.Prelude.{◌≡◌, ℕ, ◌<◌, ◌≤◌, List, [], ◌∷◌, length, map, slice_index_or}
 use Rattle.measures.specs.declared.account.Account.{Account}
 use Rattle.measures.specs.declared.site.Site.{Site}
 use Rattle.measures.specs.Sites.{share_in, part_due, excess_in, commitment_in}
-use Rattle.measures.specs.Records.{row}
+use Rattle.timelines.specs.declared.stretch.Standing.{Standing}
 use Rattle.timelines.specs.declared.stretch.Snapshot.{Snapshot}
 use Rattle.timelines.specs.declared.stretch.LevelRange.{LevelRange}
 use Rattle.timelines.specs.declared.stretch.Column.{Column}
 
--- the numbers of an account at a site and a tick, supply by supply, and its level by a measure
+-- the numbers of an account at a site and a tick, in one supply
+abbrev pub standing_in : Site → Account → ℕ → ℕ → Standing
+standing_in g a t s = record {
+  share = share_in g a.holding s;
+  excess = excess_in g (part_due g a) a.holding s;
+  commitment = commitment_in g (part_due g a) a t s;
+}
+
+-- those numbers supply by supply, and its level by a measure
 pub record Shows (g : Site) (level : Account → ℕ → ℕ) (a : Account) (t : ℕ) (v : Snapshot) : Type 0 where
-  pub its_shares : v.shares ≡ row (share_in g a.holding)
-  pub its_excesses : v.excesses ≡ row (excess_in g (part_due g a) a.holding)
-  pub its_commitments : v.commitments ≡ row (commitment_in g (part_due g a) a t)
+  pub its_supplies : v.supplies ≡ map (standing_in g a t) (0 ∷ 1 ∷ 2 ∷ 3 ∷ [])
   pub its_level : v.level ≡ level a t
 
 pub record Inside (level : ℕ) (r : LevelRange) : Type 0 where
@@ -36,16 +42,16 @@ pub record NoWider (lowest highest : Account → ℕ → ℕ → ℕ) (account :
 
 -- a tick that a column has, with the level there within the column's bounds
 pub record Has (level : ℕ → ℕ) (k : ℕ) (x : Column) : Type 0 where
-  pub not_before : x.first ≤ k
-  pub not_after : k ≤ x.last
+  pub not_before : x.span.first ≤ k
+  pub not_after : k ≤ x.span.last
   pub bounded : Inside (level k) x.range
 
 -- a column of a span, with ticks of it and bounds that are no wider than the measure makes them
 pub record IsTight (lowest highest : Account → ℕ → ℕ → ℕ) (account : ℕ → Account) (first last : ℕ) (x : Column) : Type 0 where
-  pub not_before : first ≤ x.first
-  pub has_a_tick : x.first ≤ x.last
-  pub not_after : x.last ≤ last
-  pub no_wider : NoWider lowest highest account x.first x.last x.range
+  pub not_before : first ≤ x.span.first
+  pub has_a_tick : x.span.first ≤ x.span.last
+  pub not_after : x.span.last ≤ last
+  pub no_wider : NoWider lowest highest account x.span.first x.span.last x.range
 
 -- some column has the tick
 abbrev pub Covered : (ℕ → ℕ) → List Column → ℕ → Type 0

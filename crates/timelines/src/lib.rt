@@ -3,5 +3,6 @@
 
 pub mod compare;
 pub mod curve;
+pub mod span;
 pub mod stretch;
 pub mod timeline;

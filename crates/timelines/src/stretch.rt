@@ -1,4 +1,8 @@
 // Parts of a timeline.
+ghost use Rattle.std.specs.Prelude.{◌≡◌, ℕ, min, max};
+ghost use Rattle.timelines.specs.Views.{Inside};
+
+use crate::span::Span;
 use measures::account::Account;
 use pools::amounts::SUPPLIES;
 
@@ -16,26 +20,45 @@ pub struct InForce {
     pub until: u64,
 }
 
-// How a house stands at some tick: a number for each supply, and its level.
-#[derive(Clone, Copy)]
+// How a house stands in one supply.
+#[derive(Clone, Copy, PartialEq, Eq, Debug)]
+pub struct Standing {
+    pub share: u32,
+    pub excess: u32,
+    pub commitment: u32,
+}
+
+// How a house stands at some tick: in each supply, and by its level.
+#[derive(Clone, Copy, PartialEq, Eq, Debug)]
 pub struct Snapshot {
-    pub shares: [u32; SUPPLIES],
-    pub excesses: [u32; SUPPLIES],
-    pub commitments: [u32; SUPPLIES],
+    pub supplies: [Standing; SUPPLIES],
     pub level: u32,
 }
 
 // Bounds on a level.
-#[derive(Clone, Copy)]
+#[derive(Clone, Copy, PartialEq, Eq, Debug)]
 pub struct LevelRange {
     pub lowest: u32,
     pub highest: u32,
 }
 
-// Some ticks, ends included, and bounds on the level at each of them.
-#[derive(Clone, Copy)]
+impl LevelRange {
+    // The smallest range that has both within.
+    pub(crate) fn join(self, other: LevelRange) -> LevelRange
+        ensures has_both_within { ((n : ℕ) → Inside n self → Inside n result) × ((n : ℕ) → Inside n other → Inside n result) }
+        ensures lowest_of_the_two { result.lowest ≡ min self.lowest other.lowest }
+        ensures highest_of_the_two { result.highest ≡ max self.highest other.highest }
+    {
+        LevelRange {
+            lowest: self.lowest.min(other.lowest),
+            highest: self.highest.max(other.highest),
+        }
+    }
+}
+
+// Some ticks, and bounds on the level at each of them.
+#[derive(Clone, Copy, PartialEq, Eq, Debug)]
 pub struct Column {
-    pub first: u64,
-    pub last: u64,
+    pub span: Span,
     pub range: LevelRange,
 }

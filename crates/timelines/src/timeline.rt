@@ -1,11 +1,15 @@
 // A house that starts with nothing at tick 0, and whose holding changes at given ticks.
-ghost use Rattle.std.specs.Prelude.{◌≡◌, ℕ, ◌≤◌, min, max, [], ◌∷◌, ◌++◌, is_ok, if◌then◌else◌};
+ghost use Rattle.std.specs.Prelude.{◌≡◌, ℕ, ◌≤◌, [], ◌∷◌, ◌++◌, is_ok, if◌then◌else◌};
+ghost use Rattle.std.specs.List.Sorted.{IsNonDecreasingBy};
+ghost use Rattle.timelines.specs.declared.stretch.Stretch.{Stretch};
+ghost use Rattle.timelines.specs.declared.timeline.NotHeld.TheVariants.{NoMemory};
 ghost use Rattle.measures.specs.Clock.{on_clock, Between};
-ghost use Rattle.timelines.specs.Courses.{new_account, account_at, last_change};
+ghost use Rattle.timelines.specs.Courses.{new_account, account_at, last_change, IsCut};
 ghost use Rattle.timelines.specs.Changes.{change_at, Judged};
 ghost use Rattle.timelines.specs.Views.{Shows, Inside, NoWider};
 
-use crate::stretch::{InForce, LevelRange, Snapshot, Stretch};
+use crate::span::Span;
+use crate::stretch::{InForce, LevelRange, Snapshot, Standing, Stretch};
 use measures::account::Account;
 use measures::clock::on_clock;
 use measures::dated_measure::DatedMeasure;
@@ -13,12 +17,15 @@ use measures::holding::Holding;
 use measures::measure::Measure;
 use measures::past_record::PastRecord;
 use pools::amounts::Amounts;
-use std::alloc::{AllocError, Global};
+use std::alloc::{AllocFailed, Global};
+use std::error::Error;
+use std::{array, fmt};
 
 #[derive(Drop)]
 pub struct Timeline<M: Measure> {
     measure: M,
     stretches: Vec<Stretch>,
+    ghost ticks_never_fall: { IsNonDecreasingBy (λ (s : Stretch). s.from) stretches.items },
 }
 
 // The account of a house that holds nothing and has no past.
@@ -32,11 +39,30 @@ pub fn new_account() -> Account
 }
 
 // Why a change was not noted.
-#[derive(Drop)]
+#[derive(Clone, Copy, PartialEq, Eq, Debug)]
 pub enum NotHeld {
     // It is earlier than the last change, at this tick.
     Earlier(u64),
     NoMemory,
+}
+
+impl fmt::Display for NotHeld {
+    fn fmt<W: fmt::Write>(&self, f: &mut fmt::Formatter<W>) -> fmt::Result {
+        match self {
+            NotHeld::Earlier(last) => write!(f, "the last change is at tick {last}"),
+            NotHeld::NoMemory => write!(f, "no memory is left"),
+        }
+    }
+}
+
+impl Error for NotHeld {}
+
+impl<T: Drop> From<AllocFailed<T>> for NotHeld {
+    ghost from_gives = { λ _ reason. reason ≡ NoMemory };
+
+    fn from(_failed: AllocFailed<T>) -> Self {
+        Self::NoMemory
+    }
 }
 
 impl<M: Measure> Timeline<M> {
@@ -60,10 +86,7 @@ impl<M: Measure> Timeline<M> {
     pub fn last_change(&self) -> u64
         ensures tick_of_the_last_change { result ≡ last_change self.now.stretches.items }
     {
-        match self.stretches.as_slice().last() {
-            Some(stretch) => stretch.from,
-            None => 0,
-        }
+        self.stretches.last().map_or(0, |stretch| stretch.from)
     }
 
     // From the tick on the house holds this. Its record is brought to the tick with what it held before.
@@ -82,10 +105,8 @@ impl<M: Measure> Timeline<M> {
             past: self.measure.bring(&before, from),
             holding,
         };
-        match self.stretches.push(Stretch { from, account }) {
-            Ok(()) => Ok(()),
-            Err(_) => Err(NotHeld::NoMemory),
-        }
+        self.stretches.push(Stretch { from, account })?;
+        Ok(())
     }
 
     // The account in force at a tick.
@@ -94,20 +115,21 @@ impl<M: Measure> Timeline<M> {
         ensures stays_until { (k : ℕ) → tick ≤ k → k ≤ result.until → account_at self.now.stretches.items k ≡ result.account }
         ensures reaches_the_tick { tick ≤ result.until }
     {
-        let mut account = new_account();
-        for stretch in self.stretches.as_slice() {
-            if stretch.from > tick {
-                return InForce {
-                    account,
-                    until: stretch.from - 1,
-                };
-            }
-            account = stretch.account;
-        }
+        let (begun, later) = self.cut_at(tick);
         InForce {
-            account,
-            until: u64::MAX,
+            account: begun
+                .last()
+                .map_or(new_account(), |stretch| stretch.account),
+            until: later.first().map_or(u64::MAX, |stretch| stretch.from - 1),
         }
+    }
+
+    // The stretches that have begun by a tick, and those that have not.
+    fn cut_at(&self, tick: u64) -> (&[Stretch], &[Stretch])
+        ensures begun_and_not_begun { IsCut self.now.stretches.items result.0.now result.1.now tick }
+    {
+        let stretches = self.stretches.as_slice();
+        stretches.split_at(stretches.partition_point(|stretch| stretch.from <= tick))
     }
 
     // Share, excess, commitment and level at a tick.
@@ -117,24 +139,11 @@ impl<M: Measure> Timeline<M> {
         let account = self.in_force(tick).account;
         let site = self.measure.site();
         Snapshot {
-            shares: [
-                site.share(&account.holding, 0),
-                site.share(&account.holding, 1),
-                site.share(&account.holding, 2),
-                site.share(&account.holding, 3),
-            ],
-            excesses: [
-                site.excess(&account, 0),
-                site.excess(&account, 1),
-                site.excess(&account, 2),
-                site.excess(&account, 3),
-            ],
-            commitments: [
-                site.commitment(&account, tick, 0),
-                site.commitment(&account, tick, 1),
-                site.commitment(&account, tick, 2),
-                site.commitment(&account, tick, 3),
-            ],
+            supplies: array::from_fn(|supply| Standing {
+                share: site.share(&account.holding, supply),
+                excess: site.excess(&account, supply),
+                commitment: site.commitment(&account, tick, supply),
+            }),
             level: self.measure.level(&account, tick),
         }
     }
@@ -142,18 +151,19 @@ impl<M: Measure> Timeline<M> {
 
 impl<M: DatedMeasure> Timeline<M> {
     // Bounds on the level at every tick from the first to the last, whatever changes between them.
-    pub fn level_range(&self, first: u64, last: u64) -> LevelRange
-        ensures no_level_between_is_outside { (k : ℕ) → first ≤ k → k ≤ last → Inside (M.Measure.level self.now.measure (account_at self.now.stretches.items k) k) result }
-        ensures no_wider_than_the_measure_tells { first ≤ last → NoWider (M.DatedMeasure.lowest self.now.measure) (M.DatedMeasure.highest self.now.measure) (account_at self.now.stretches.items) first last result }
+    pub fn level_range(&self, span: Span) -> LevelRange
+        ensures no_level_between_is_outside { (k : ℕ) → span.first ≤ k → k ≤ span.last → Inside (M.Measure.level self.now.measure (account_at self.now.stretches.items k) k) result }
+        ensures no_wider_than_the_measure_tells { span.first ≤ span.last → NoWider (M.DatedMeasure.lowest self.now.measure) (M.DatedMeasure.highest self.now.measure) (account_at self.now.stretches.items) span.first span.last result }
     {
-        let start = self.in_force(first);
-        let mut end = start.until.min(last);
-        let mut range = self.over(&start.account, first, end);
-        while end < last {
+        let start = self.in_force(span.first);
+        let mut end = start.until.min(span.last);
+        let mut range = self.over(&start.account, span.first, end);
+        // A turn begins where the account of the one before ends, which no range of ticks tells beforehand.
+        while end < span.last {
             let begin = end + 1;
             let next = self.in_force(begin);
-            end = next.until.min(last);
-            range = joined(range, self.over(&next.account, begin, end));
+            end = next.until.min(span.last);
+            range = range.join(self.over(&next.account, begin, end));
         }
         range
     }
@@ -167,17 +177,5 @@ impl<M: DatedMeasure> Timeline<M> {
             lowest: self.measure.lowest(account, one, other),
             highest: self.measure.highest(account, one, other),
         }
-    }
-}
-
-// The smallest range that has both within.
-fn joined(a: LevelRange, b: LevelRange) -> LevelRange
-    ensures has_both_within { ((n : ℕ) → Inside n a → Inside n result) × ((n : ℕ) → Inside n b → Inside n result) }
-    ensures lowest_of_the_two { result.lowest ≡ min a.lowest b.lowest }
-    ensures highest_of_the_two { result.highest ≡ max a.highest b.highest }
-{
-    LevelRange {
-        lowest: a.lowest.min(b.lowest),
-        highest: a.highest.max(b.highest),
     }
 }

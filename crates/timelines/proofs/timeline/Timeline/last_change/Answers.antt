@@ -1,14 +1,13 @@
-use Rattle.std.proofs.Common.{ap, ◌∙◌}
+use Rattle.std.proofs.Common.{◌≡◌, ◌-◌, length, ap, ◌∙◌, rules}
+use Rattle.std.specs.List.{slice_get}
+use Rattle.std.specs.Option.{option_map_or}
+use Rattle.timelines.specs.declared.stretch.Stretch.{Stretch}
 use Rattle.timelines.specs.Courses.{last_change}
-use Rattle.timelines.proofs.CourseLaws.{change_last, change_none}
+use Rattle.timelines.proofs.CourseLaws.{latest_read, latest_change}
 use Rattle.timelines.proofs.timeline.Timeline.last_change.Goals as goal
 
-pub returns-in-Some : goal.returns-in-Some
-returns-in-Some g c =
-    let found = c.in-Some.ensures.item in
-    record { tick_of_the_last_change = change_last 0 c.as_slice.result.now c.in-Some.stretch.now found.3.0 found.1 ∙ ap last_change c.as_slice.ensures.value }
-
-pub returns-in-None : goal.returns-in-None
-returns-in-None g c =
-    let none = c.in-None.ensures.item in
-    record { tick_of_the_last_change = change_none c.as_slice.result.now none.3 ∙ ap last_change c.as_slice.ensures.value }
+pub returns : goal.returns
+returns g c =
+    let xs = c.deref.result.now in
+    let read : c.map_or.result ≡ option_map_or (λ (s : Stretch). s.from) (slice_get xs (length xs - 1)) 0 = search rules in
+    record { tick_of_the_last_change = read ∙ latest_read (λ s. s.from) 0 xs ∙ latest_change 0 xs ∙ ap last_change c.deref.ensures.value }

@@ -19,7 +19,7 @@ loop-end-preserved g c =
       within = omega arith;
       begun = λ h. let before = seen.begun h in omega arith;
       inside = λ k h l.
-          let both = c.joined-range.ensures.has_both_within in
+          let both = c.join-range.ensures.has_both_within in
           ⊎_elim
           (λ old. both.0 _ (seen.inside k h (leb-true k c.loop-end.end old)))
           (λ new.
@@ -31,9 +31,9 @@ loop-end-preserved g c =
           let before = seen.begun h in
           let some : c.loop-end.end + 1 ≤ end = omega arith in
           let stays : (k : ℕ) → c.loop-end.end + 1 ≤ k → k ≤ end → account k ≡ next.result.account = (λ k from to. next.ensures.stays_until k from (omega arith)) in
-          let new : NoWider low high account c.args.first end c.over.result = record {
-            low_is_told = told_here low account c.args.first next.result.account (c.loop-end.end + 1) end c.over.result.lowest (omega arith) some next.ensures.account_at_the_tick stays c.over.ensures.lowest_of_the_measure;
-            high_is_told = told_here high account c.args.first next.result.account (c.loop-end.end + 1) end c.over.result.highest (omega arith) some next.ensures.account_at_the_tick stays c.over.ensures.highest_of_the_measure;
+          let new : NoWider low high account c.args.span.first end c.over.result = record {
+            low_is_told = told_here low account c.args.span.first next.result.account (c.loop-end.end + 1) end c.over.result.lowest (omega arith) some next.ensures.account_at_the_tick stays c.over.ensures.lowest_of_the_measure;
+            high_is_told = told_here high account c.args.span.first next.result.account (c.loop-end.end + 1) end c.over.result.highest (omega arith) some next.ensures.account_at_the_tick stays c.over.ensures.highest_of_the_measure;
           } in
-          no_wider_joined low high account c.args.first c.loop-end.end end c.loop-end.range c.over.result c.joined-range.result (omega arith) (seen.no_wider h) new c.joined-range.ensures.lowest_of_the_two c.joined-range.ensures.highest_of_the_two;
+          no_wider_joined low high account c.args.span.first c.loop-end.end end c.loop-end.range c.over.result c.join-range.result (omega arith) (seen.no_wider h) new c.join-range.ensures.lowest_of_the_two c.join-range.ensures.highest_of_the_two;
     }
