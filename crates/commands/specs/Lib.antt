@@ -1,3 +1,4 @@
 pub mod Stacks
 pub mod Slots
+pub mod SiteStates
 pub mod Sessions

@@ -15,15 +15,12 @@ use Rattle.commands.specs.declared.command.Answer.TheVariants.{SiteLaidOut, Laye
 use Rattle.commands.specs.declared.command.Refusal.{Refusal}
 use Rattle.commands.specs.declared.command.Refusal.TheVariants.{NoSite, Refused}
 use Rattle.commands.specs.declared.session.Session.{Session}
+use Rattle.commands.specs.declared.stack.Stack
+use Rattle.commands.specs.SiteStates.{SiteState, state_of}
 use Rattle.commands.specs.Stacks.{laid, lay_obstacle, refusal_of}
 
--- what is known of a site: its terms, and what is in use
-pub record SiteState : Type 0 where
-  pub terms : Terms
-  pub used : Total
-
-abbrev pub known : {S : Type 0} → Ghosts S → Session S → Option SiteState
-known pool d = option_map (λ s. record { terms = pool.terms s; used = pool.used s }) d.site
+abbrev pub known : {S : Type 0} {stack : Stack.Ghosts S} → (pool : Ghosts S) → Session S stack pool → Option SiteState
+known pool d = state_of pool d.site
 
 -- what is in use and the capacity, zero where there is no site
 abbrev pub used_now : Option SiteState → Total
@@ -34,13 +31,8 @@ abbrev pub capacity_now : Option SiteState → Total
 capacity_now None = nothing
 capacity_now (Some k) = k.terms.capacity
 
--- what is in use at the site is permitted
-abbrev pub PermittedUse : Option SiteState → Type 0
-PermittedUse None = Unit {0}
-PermittedUse (Some k) = k.terms.permitted k.used ≡ true
-
 -- how many layers can still be laid over the site
-abbrev pub free_places : {S : Type 0} → (S → ℕ) → Session S → ℕ
+abbrev pub free_places : {S : Type 0} {stack : Stack.Ghosts S} {pool : Ghosts S} → (S → ℕ) → Session S stack pool → ℕ
 free_places places d = unwrap_or (option_map places d.site) 0
 
 -- the reply to a layer, by what stands in its way
