@@ -7,7 +7,7 @@ use crate::layer::{NewLayer, Obstacle};
 use pools::amounts::Amounts;
 use pools::fault::PoolFault;
 
-#[derive(Clone, Copy)]
+#[derive(Clone, Copy, PartialEq, Eq, Debug)]
 pub enum Command {
     // Lay out a new site with these capacities; the former one is let go.
     Site(Amounts),
@@ -19,7 +19,7 @@ pub enum Command {
 }
 
 // What was done, or the answer to a question.
-#[derive(Clone, Copy)]
+#[derive(Clone, Copy, PartialEq, Eq, Debug)]
 pub enum Answer {
     SiteLaidOut,
     LayerLaid(NewLayer),

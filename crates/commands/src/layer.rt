@@ -7,7 +7,7 @@ use pools::fault::PoolFault;
 use pools::load_request::LoadRequest;
 use pools::refused::RefusedLayer;
 
-#[derive(Clone, Copy)]
+#[derive(Clone, Copy, PartialEq, Eq, Debug)]
 pub enum NewLayer {
     Reserve(Amounts),
     LoadLimit(LoadRequest),

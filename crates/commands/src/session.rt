@@ -13,7 +13,7 @@ pub struct Session<S: Stack> {
 }
 
 // What is in use at a site, and its capacity; nothing of either where there is no site.
-#[derive(Clone, Copy)]
+#[derive(Clone, Copy, PartialEq, Eq, Debug)]
 pub struct Status {
     pub used: Amounts,
     pub capacity: Amounts,

@@ -1,7 +1,7 @@
 -- What is told of a line of a script.
 use Rattle.std.specs.Prelude.{◌≡◌, ℕ, Some, None, Ok, Err, Option, Result}
 use Rattle.commands.specs.declared.command.Command.{Command}
-use Rattle.commands.specs.Sessions.{SiteState}
+use Rattle.commands.specs.SiteStates.{SiteState}
 use Rattle.site_scripts.specs.declared.mistake.Mistake.{Mistake}
 use Rattle.site_scripts.specs.declared.told.Told.{Told}
 use Rattle.site_scripts.specs.Lines.{TellsCommand}

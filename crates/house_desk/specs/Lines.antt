@@ -5,7 +5,7 @@ use Rattle.pools.specs.declared.amounts.Amounts.{Amounts}
 use Rattle.pools.specs.Totals.{total}
 use Rattle.commands.specs.declared.command.Command.{Command}
 use Rattle.commands.specs.declared.command.Command.TheVariants as command
-use Rattle.commands.specs.Sessions.{SiteState}
+use Rattle.commands.specs.SiteStates.{SiteState}
 use Rattle.houses.specs.declared.command.HouseCommand.{HouseCommand}
 use Rattle.houses.specs.Watches.{HouseState, Replies, After}
 use Rattle.site_scripts.specs.Lines.{TellsCommand}

@@ -7,7 +7,7 @@ use pools::amounts::Amounts;
 use timelines::span::Span;
 use timelines::timeline::NotHeld;
 
-#[derive(Clone, Copy)]
+#[derive(Clone, Copy, PartialEq, Eq, Debug)]
 pub enum HouseCommand {
     // Follow a new house of the site, under this measure, one of so many; the former one is let go.
     Follow(Kind, u32),

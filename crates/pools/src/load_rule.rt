@@ -7,7 +7,7 @@ use crate::amounts::{Amounts, SUPPLIES};
 
 mod judged;
 
-#[derive(Clone, Copy)]
+#[derive(Clone, Copy, PartialEq, Eq, Debug)]
 pub struct LoadRule {
     weights: [u32; SUPPLIES],
     limit: u64,

@@ -2,7 +2,7 @@
 use commands::command::Command;
 use houses::command::HouseCommand;
 
-#[derive(Clone, Copy)]
+#[derive(Clone, Copy, PartialEq, Eq, Debug)]
 pub enum Request {
     Site(Command),
     House(HouseCommand),

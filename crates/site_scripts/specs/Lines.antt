@@ -2,7 +2,8 @@
 use Rattle.std.specs.Prelude.{◌≡◌, ℕ, Some, None, Option}
 use Rattle.pools.specs.Totals.{total}
 use Rattle.commands.specs.declared.command.Command.{Command}
-use Rattle.commands.specs.Sessions.{SiteState, reply_to, known_after, used_now, capacity_now}
+use Rattle.commands.specs.SiteStates.{SiteState}
+use Rattle.commands.specs.Sessions.{reply_to, known_after, used_now, capacity_now}
 use Rattle.site_scripts.specs.declared.told.Told.{Told}
 
 -- what is known of the site after a line: as before where it has no command about the site, and else by the command

@@ -12,7 +12,7 @@ use pools::fault::PoolFault;
 use std::fmt;
 
 // A command with its reply, and how the site stands after it.
-#[derive(Clone, Copy)]
+#[derive(Clone, Copy, PartialEq, Eq, Debug)]
 pub struct Told {
     pub command: Command,
     pub reply: Reply,
@@ -83,7 +83,7 @@ fn reason_of(fault: PoolFault, command: Command) -> &'static str {
 }
 
 // One number for each of the four supplies, with a space between.
-#[derive(Clone, Copy)]
+#[derive(Clone, Copy, PartialEq, Eq, Debug)]
 pub struct Four(pub [u32; SUPPLIES]);
 
 impl fmt::Display for Four {

@@ -7,14 +7,14 @@ use measures::account::Account;
 use pools::amounts::SUPPLIES;
 
 // An account, and the tick from which on it is in force.
-#[derive(Clone, Copy)]
+#[derive(Clone, Copy, PartialEq, Eq, Debug)]
 pub struct Stretch {
     pub from: u64,
     pub account: Account,
 }
 
 // The account in force at some tick, and the last tick up to which it is known to stay in force.
-#[derive(Clone, Copy)]
+#[derive(Clone, Copy, PartialEq, Eq, Debug)]
 pub struct InForce {
     pub account: Account,
     pub until: u64,

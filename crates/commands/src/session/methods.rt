@@ -15,7 +15,6 @@ use pools::amounts::Amounts;
 impl<S: Stack + Drop> Session<S> {
     pub fn new() -> Session<S>
         ensures starts_without_a_site { known S.Pool result ≡ None }
-        ensures starts_with_permitted_use { PermittedUse (known S.Pool result) }
     {
         Session { site: None }
     }
@@ -24,7 +23,7 @@ impl<S: Stack + Drop> Session<S> {
         ensures replies_by_the_rules { result ≡ reply_to (free_places S.Stack.places self.old) (known S.Pool self.old) command }
         ensures moves_by_the_rules { known S.Pool self.new ≡ known_after (known S.Pool self.old) command result }
         ensures layers_take_places { PlacesAfter S.Stack.depth (free_places S.Stack.places self.old) (free_places S.Stack.places self.new) command result }
-        ensures use_stays_permitted { PermittedUse (known S.Pool self.old) → PermittedUse (known S.Pool self.new) }
+        ensures use_stays_permitted { PermittedUse (known S.Pool self.new) }
         ensures question_or_refusal_changes_nothing { leaves result ≡ true → self.new ≡ self.old }
     {
         match command {
@@ -83,7 +82,6 @@ impl<S: Stack + Drop> Session<S> {
         ensures replies_by_the_rules { result ≡ reply_to (free_places S.Stack.places self.old) (known S.Pool self.old) (Lay layer) }
         ensures moves_by_the_rules { known S.Pool self.new ≡ known_after (known S.Pool self.old) (Lay layer) result }
         ensures layers_take_places { PlacesAfter S.Stack.depth (free_places S.Stack.places self.old) (free_places S.Stack.places self.new) (Lay layer) result }
-        ensures use_stays_permitted { PermittedUse (known S.Pool self.old) → PermittedUse (known S.Pool self.new) }
         ensures question_or_refusal_changes_nothing { leaves result ≡ true → self.new ≡ self.old }
     {
         let site = self.site.take().ok_or(Refusal::NoSite)?;
