@@ -5,9 +5,10 @@ use std::alloc::AllocError;
 use timelines::span::Span;
 use timelines::stretch::{Column, LevelRange};
 
-// How many lines high a curve is, and the highest of them; the lowest is line 0.
+// How many lines high a curve is.
 const HEIGHT: u32 = 16;
 
+// The lowest line is line 0.
 const TOP_LINE: u32 = HEIGHT - 1;
 
 // Each column has a mark in every line between the lowest and the highest level at its ticks.
