@@ -5,7 +5,7 @@ use Rattle.pools.specs.declared.fault.PoolFault.{PoolFault}
 use Rattle.pools.specs.declared.fault.PoolFault.TheVariants.{MoreThanUsed, DoesNotFit}
 use Rattle.pools.specs.declared.pool.Pool.{Ghosts}
 use Rattle.pools.specs.Totals.{Total, total, nothing, plus, minus, is_within}
-use Rattle.pools.specs.Terms.{Terms, admits, bench_terms}
+use Rattle.pools.specs.Terms.{admits, bench_terms}
 use Rattle.commands.specs.declared.layer.NewLayer.{NewLayer}
 use Rattle.commands.specs.declared.layer.Obstacle.{Obstacle}
 use Rattle.commands.specs.declared.command.Command.{Command}

@@ -26,11 +26,7 @@ struct SiteDesk {
 
 impl Desk for SiteDesk {
     fn hear(&mut self, heap: Global, number: u64, line: &[u8]) -> Result<Said, AllocError> {
-        let outcome = carry(&mut self.session, read(heap, line)?);
-        Ok(Said {
-            understood: outcome.is_ok(),
-            text: text_of(heap, number, outcome)?,
-        })
+        text_of(heap, number, carry(&mut self.session, read(heap, line)?))
     }
 }
 

@@ -1,16 +1,13 @@
 // What the desk prints.
 use crate::carry_out::Outcome;
+use site_scripts::program::Said;
 use std::alloc::{AllocError, Global};
 
-// The text for the line with this number; none for a blank line.
-pub fn text_of(
-    heap: Global,
-    number: u64,
-    outcome: Outcome<'_>,
-) -> Result<Option<String>, AllocError> {
-    match outcome {
+// What is said of the line with this number.
+pub fn text_of(heap: Global, number: u64, outcome: Outcome<'_>) -> Result<Said, AllocError> {
+    Ok(match outcome {
         Ok(None) => Ok(None),
         Ok(Some(told)) => Ok(Some(format!(in heap; "{number}: {told}")?)),
-        Err(mistake) => Ok(Some(format!(in heap; "{number}: not understood: {mistake}")?)),
-    }
+        Err(mistake) => Err(format!(in heap; "{number}: not understood: {mistake}")?),
+    })
 }

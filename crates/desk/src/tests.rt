@@ -19,13 +19,11 @@ fn says(
     text: &str,
 ) -> Result<(), Fail> {
     let outcome = carry(session, read(heap, line)?);
-    match text_of(heap, 7, outcome)? {
-        Some(said) => {
-            assert_eq!(rt; said.as_str(), text);
-            Ok(())
-        },
-        None => Err(Fail::new("nothing was said")),
-    }
+    let Some(said) = text_of(heap, 7, outcome)?.unwrap_or_else(Some) else {
+        return Err(Fail::new("nothing was said"));
+    };
+    assert_eq!(rt; said.as_str(), text);
+    Ok(())
 }
 
 #[test]
@@ -107,7 +105,7 @@ fn blank_lines_say_nothing_and_white_space_does_not_count(rt: HostRuntime) -> Re
     let blank: [&[u8]; 3] = [b"", b" \t\r", b"  # take 1"];
     for line in blank {
         let outcome = carry(&mut session, read(heap, line)?);
-        assert!(rt; text_of(heap, 7, outcome)?.is_none());
+        assert!(rt; text_of(heap, 7, outcome)?.is_ok_and(|said| said.is_none()));
     }
     says(
         &rt,

@@ -25,10 +25,7 @@ type Site = Slot<Slot<Slot<Slot<Bench>>>>;
 impl Desk for HouseDesk<Site> {
     fn hear(&mut self, heap: Global, number: u64, line: &[u8]) -> Result<Said, AllocError> {
         let outcome = self.carry(heap, read(heap, line)?);
-        Ok(Said {
-            understood: outcome.is_ok(),
-            text: text_of(heap, number, outcome, self.watch.house())?,
-        })
+        text_of(heap, number, outcome, self.watch.house())
     }
 }
 

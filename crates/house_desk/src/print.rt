@@ -2,20 +2,21 @@
 use crate::house_page::house_text;
 use crate::outcome::{Outcome, Told};
 use houses::house::House;
+use site_scripts::program::Said;
 pub use site_scripts::told::Four;
 use std::alloc::{AllocError, Global};
 
-// The text for the line with this number, which may have several lines; none for a blank line.
+// What is said of the line with this number, which may have several lines.
 pub fn text_of(
     heap: Global,
     number: u64,
     outcome: Outcome<'_>,
     house: Option<&House>,
-) -> Result<Option<String>, AllocError> {
-    match outcome {
+) -> Result<Said, AllocError> {
+    Ok(match outcome {
         Ok(None) => Ok(None),
         Ok(Some(Told::Site(told))) => Ok(Some(format!(in heap; "{number}: {told}")?)),
         Ok(Some(Told::House(told))) => Ok(Some(house_text(heap, number, told, house)?)),
-        Err(mistake) => Ok(Some(format!(in heap; "{number}: not understood: {mistake}")?)),
-    }
+        Err(mistake) => Err(format!(in heap; "{number}: not understood: {mistake}")?),
+    })
 }

@@ -2,28 +2,26 @@
 use std::alloc::{AllocError, Global};
 use std::io::{BufRead, BufReader};
 
+// What is printed of a line, nothing for a blank one; an error for a line that is not understood.
+pub type Said = Result<Option<String>, String>;
+
 // Who hears a script.
 pub trait Desk {
-    // Carries out a line, and tells of it.
+    // Carries out the line with this number, and tells of it.
     fn hear(&mut self, heap: Global, number: u64, line: &[u8]) -> Result<Said, AllocError>;
-}
-
-#[derive(Drop)]
-pub struct Said {
-    // What is printed; nothing for a blank line.
-    pub text: Option<String>,
-    pub understood: bool,
 }
 
 pub fn run<D: Desk + Drop>(rt: &HostRuntime, mut desk: D) -> anyhow::Result<()> {
     let mut mistakes = 0u64;
     let lines = BufReader::new(rt.alloc(), rt.stdin())?.split(rt.alloc(), b'\n');
     for (i, line) in lines.enumerate() {
-        let said = desk.hear(rt.alloc(), i as u64 + 1, line?.as_slice())?;
-        if !said.understood {
-            mistakes = mistakes.saturating_add(1);
-        }
-        if let Some(text) = said.text {
+        let said = desk
+            .hear(rt.alloc(), i as u64 + 1, line?.as_slice())?
+            .unwrap_or_else(|mistake| {
+                mistakes = mistakes.saturating_add(1);
+                Some(mistake)
+            });
+        if let Some(text) = said {
             rt.println(text)?;
         }
     }
