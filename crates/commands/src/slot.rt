@@ -14,6 +14,7 @@ use pools::load_limit::LoadLimit;
 use pools::pool::Pool;
 use pools::reserve::Reserve;
 
+// The cases hold three types, and a `dyn` may not be handed out: so each call is a match over the three.
 #[derive(Drop)]
 pub enum Slot<P: Pool> {
     Free(P),

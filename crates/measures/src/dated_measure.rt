@@ -6,7 +6,7 @@ ghost use Rattle.measures.specs.Clock.{on_clock, Between};
 use crate::account::Account;
 use crate::measure::Measure;
 
-// The two ticks may come in either order.
+// The two ticks may come in either order, so they are no span.
 pub trait DatedMeasure: Measure {
     ghost lowest: { Self → Account → ℕ → ℕ → ℕ };
 

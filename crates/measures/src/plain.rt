@@ -43,6 +43,7 @@ impl Measure for Plain {
         Plain { site: terms }
     }
 
+    // (The same getter as of the other measure: a trait cannot hold the field.)
     fn site(&self) -> Site {
         self.site
     }

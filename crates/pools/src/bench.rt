@@ -16,7 +16,7 @@ pub struct Bench {
 }
 
 impl Bench {
-    // A new bench: nothing is in use.
+    // A new bench: nothing is in use. (Each maker of a pool says so of what it makes: use comes later, so no type can.)
     pub fn new(capacity: Amounts) -> Bench
         ensures permits_within_its_capacities { ⟦<Bench as Pool>⟧.terms result ≡ bench_terms (total capacity) }
         ensures starts_unused { ⟦<Bench as Pool>⟧.used result ≡ nothing }

@@ -37,6 +37,8 @@ impl<P: Pool> Reserve<P> {
     }
 }
 
+// (A load limit hands the same four calls on, a line each: one generic layer over a rule would be no plainer, since the
+// rule would be a trait with four laws.)
 impl<P: Pool> Pool for Reserve<P> {
     ghost terms = { λ s. reserve_meaning P.Pool s };
 

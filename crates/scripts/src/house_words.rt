@@ -1,4 +1,4 @@
-// Commands about a house.
+// Commands about a house. (Each function promises of its own result that its words say it: no type holds that.)
 ghost use Rattle.std.specs.Prelude.{◌≡◌, ℕ, ◌≤◌, List, IfOk, codes};
 ghost use Rattle.std.specs.Borrow.{Bor};
 ghost use Rattle.site_scripts.specs.Numbers.{decimal_value};

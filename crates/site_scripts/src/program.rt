@@ -12,6 +12,7 @@ pub trait Desk {
 }
 
 pub fn run<D: Desk + Drop>(rt: &HostRuntime, mut desk: D) -> anyhow::Result<()> {
+    // Counted as lines are heard, since each is printed at once.
     let mut mistakes = 0u64;
     let lines = BufReader::new(rt.alloc(), rt.stdin())?.split(rt.alloc(), b'\n');
     for (i, line) in lines.enumerate() {

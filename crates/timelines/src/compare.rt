@@ -1,4 +1,5 @@
-// Questions about accounts under any measure. The answers rest on the measure's laws alone.
+// Questions about accounts under any measure. The answers rest on the measure's laws alone. (Free functions: a struct
+// of measure and account would be made for one call, and `agree` and `stays_below` look at two.)
 ghost use Rattle.std.specs.Prelude.{◌≡◌, ℕ, ◌-◌, ◌^◌, ◌<◌, ◌≤◌, ◌==◌, nat_lt, true, is_some};
 ghost use Rattle.std.specs.Option.{SomeIff};
 ghost use Rattle.pools.specs.Totals.{total, plus, Within};

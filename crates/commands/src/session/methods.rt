@@ -2,12 +2,10 @@
 ghost use Rattle.std.specs.Prelude.{◌≡◌, true, None};
 ghost use Rattle.std.specs.Option.{option_map};
 ghost use Rattle.pools.specs.Totals.{total};
-ghost use Rattle.commands.specs.declared.command.Command.TheVariants.{Lay};
 ghost use Rattle.commands.specs.SiteStates.{SiteState, PermittedUse};
 ghost use Rattle.commands.specs.Sessions.{known, free_places, reply_to, known_after, leaves, PlacesAfter, used_now, capacity_now};
 
 use crate::command::{Answer, Command, Refusal, Reply};
-use crate::layer::NewLayer;
 use crate::session::{Session, Status};
 use crate::stack::Stack;
 use pools::amounts::Amounts;
@@ -31,7 +29,20 @@ impl<S: Stack + Drop> Session<S> {
                 self.site = Some(S::bare(capacity));
                 Ok(Answer::SiteLaidOut)
             }
-            Command::Lay(layer) => self.lay(layer),
+            Command::Lay(layer) => {
+                let site = self.site.take().ok_or(Refusal::NoSite)?;
+                match site.lay(layer) {
+                    Ok(laid) => {
+                        self.site = Some(laid);
+                        Ok(Answer::LayerLaid(layer))
+                    }
+                    // The site is put back as it was.
+                    Err(refused) => {
+                        self.site = Some(refused.stack);
+                        Err(refused.obstacle.into())
+                    }
+                }
+            }
             Command::Take(demand) => {
                 self.site.as_mut().ok_or(Refusal::NoSite)?.take(demand)?;
                 Ok(Answer::Taken)
@@ -75,25 +86,5 @@ impl<S: Stack + Drop> Session<S> {
         ensures capacity_of_the_site_if_any { option_map total result ≡ option_map (λ (k : SiteState). k.terms.capacity) (known S.Pool self.now) }
     {
         self.site.as_ref().map(|site| site.capacity())
-    }
-
-    // Lays a layer over the site, and puts the site back as it was if that is refused.
-    fn lay(&mut self, layer: NewLayer) -> Reply
-        ensures replies_by_the_rules { result ≡ reply_to (free_places S.Stack.places self.old) (known S.Pool self.old) (Lay layer) }
-        ensures moves_by_the_rules { known S.Pool self.new ≡ known_after (known S.Pool self.old) (Lay layer) result }
-        ensures layers_take_places { PlacesAfter S.Stack.depth (free_places S.Stack.places self.old) (free_places S.Stack.places self.new) (Lay layer) result }
-        ensures question_or_refusal_changes_nothing { leaves result ≡ true → self.new ≡ self.old }
-    {
-        let site = self.site.take().ok_or(Refusal::NoSite)?;
-        match site.lay(layer) {
-            Ok(laid) => {
-                self.site = Some(laid);
-                Ok(Answer::LayerLaid(layer))
-            }
-            Err(refused) => {
-                self.site = Some(refused.stack);
-                Err(refused.obstacle.into())
-            }
-        }
     }
 }
