@@ -13,6 +13,7 @@ use pools::amounts::Amounts;
 impl<S: Stack + Drop> Session<S> {
     pub fn new() -> Session<S>
         ensures starts_without_a_site { known S.Pool result ≡ None }
+        ensures starts_with_permitted_use { PermittedUse (known S.Pool result) }
     {
         Session { site: None }
     }
