@@ -2,11 +2,11 @@
 use crate::curve_page::add_curve;
 use crate::outcome::HouseTold;
 use crate::page::Page;
-use crate::print::Four;
 use crate::table_page::add_table;
 use houses::command::{HouseCommand, HouseRefusal};
 use houses::house::House;
 use measures::share::{WHOLE, equal_part};
+use site_scripts::told::Four;
 use std::alloc::{AllocError, Global};
 use std::num::NonZeroU32;
 

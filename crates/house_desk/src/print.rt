@@ -3,7 +3,6 @@ use crate::house_page::house_text;
 use crate::outcome::{Outcome, Told};
 use houses::house::House;
 use site_scripts::program::Said;
-pub use site_scripts::told::Four;
 use std::alloc::{AllocError, Global};
 
 // What is said of the line with this number, which may have several lines.
