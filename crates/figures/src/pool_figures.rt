@@ -19,9 +19,7 @@ pub fn bench_with_reserve() -> Option<(bool, bool)>
     ensures three_is_permitted_and_four_is_not { result ≡ Some (true, false) }
 {
     let bench = Bench::new(Amounts { each: [4, 0, 0, 0] });
-    let Ok(pool) = Reserve::over(bench, Amounts { each: [1, 0, 0, 0] }) else {
-        return None;
-    };
+    let pool = Reserve::over(bench, Amounts { each: [1, 0, 0, 0] }).ok()?;
     let three = pool.fits(Amounts { each: [3, 0, 0, 0] });
     let four = pool.fits(Amounts { each: [4, 0, 0, 0] });
     Some((three, four))
@@ -32,9 +30,7 @@ pub fn bench_with_load_limit() -> Option<(bool, bool)>
     ensures load_nine_is_permitted_and_load_ten_is_not { result ≡ Some (true, false) }
 {
     let bench = Bench::new(Amounts { each: [4, 4, 0, 0] });
-    let Ok(pool) = LoadLimit::over(bench, LOAD_OF_NINE) else {
-        return None;
-    };
+    let pool = LoadLimit::over(bench, LOAD_OF_NINE).ok()?;
     let nine = pool.fits(Amounts { each: [4, 1, 0, 0] });
     let ten = pool.fits(Amounts { each: [4, 2, 0, 0] });
     Some((nine, ten))
@@ -45,12 +41,8 @@ pub fn reserve_over_load_limit() -> Option<bool>
     ensures reserve_counts_in_the_load { result ≡ Some false }
 {
     let bench = Bench::new(Amounts { each: [4, 4, 0, 0] });
-    let Ok(limited) = LoadLimit::over(bench, LOAD_OF_NINE) else {
-        return None;
-    };
-    let Ok(pool) = Reserve::over(limited, Amounts { each: [1, 0, 0, 0] }) else {
-        return None;
-    };
+    let limited = LoadLimit::over(bench, LOAD_OF_NINE).ok()?;
+    let pool = Reserve::over(limited, Amounts { each: [1, 0, 0, 0] }).ok()?;
     let demand = Amounts { each: [3, 2, 0, 0] };
     Some(pool.fits(demand))
 }
@@ -60,11 +52,7 @@ pub fn load_limit_over_reserve() -> Option<bool>
     ensures reserve_does_not_count_in_the_load { result ≡ Some true }
 {
     let bench = Bench::new(Amounts { each: [4, 4, 0, 0] });
-    let Ok(reserved) = Reserve::over(bench, Amounts { each: [1, 0, 0, 0] }) else {
-        return None;
-    };
-    let Ok(pool) = LoadLimit::over(reserved, LOAD_OF_NINE) else {
-        return None;
-    };
+    let reserved = Reserve::over(bench, Amounts { each: [1, 0, 0, 0] }).ok()?;
+    let pool = LoadLimit::over(reserved, LOAD_OF_NINE).ok()?;
     Some(pool.fits(Amounts { each: [3, 2, 0, 0] }))
 }

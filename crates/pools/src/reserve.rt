@@ -66,6 +66,7 @@ impl<P: Pool> Pool for Reserve<P> {
         if demand.is_zero() && self.below.used().is_zero() {
             return true;
         }
+        // (Tried as `is_some_and`: the proof, which needs the two cases apart, did not close.)
         match demand.checked_add(self.held) {
             Some(both) => self.below.fits(both),
             None => false,
