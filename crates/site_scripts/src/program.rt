@@ -7,7 +7,8 @@ pub type Said = Result<Option<String>, String>;
 
 // Who hears a script.
 pub trait Desk {
-    // Carries out the line with this number, and tells of it.
+    // Carries out the line with this number, and tells of it. (The allocator and the number go on to what prints; only a
+    // desk of pages makes them one.)
     fn hear(&mut self, heap: Global, number: u64, line: &[u8]) -> Result<Said, AllocError>;
 }
 

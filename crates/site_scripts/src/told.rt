@@ -20,7 +20,7 @@ pub struct Told {
 }
 
 impl Told {
-    // Has the command obeyed.
+    // Has the command obeyed. (Both promises are of a call, as those of `carry` in each desk: no type holds them.)
     pub fn of<S: Stack + Drop>(session: &mut Session<S>, command: Command) -> Told
         ensures moves_by_its_command_alone { known S.Pool session.new ≡ known_after_line (free_places S.Stack.places session.old) (known S.Pool session.old) (Some command) }
         ensures tells_what_was_done { TellsCommand (free_places S.Stack.places session.old) (known S.Pool session.old) (known S.Pool session.new) command result }
@@ -69,7 +69,7 @@ impl fmt::Display for Told {
     }
 }
 
-// Why a command was refused, in words.
+// Why a command was refused, in words. (They hang on the command too, so they are no `Display` of the fault.)
 fn reason_of(fault: PoolFault, command: Command) -> &'static str {
     match (fault, command) {
         (PoolFault::BadLayer, Command::Lay(NewLayer::Reserve(_))) => {
