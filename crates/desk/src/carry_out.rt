@@ -21,6 +21,7 @@ pub fn carry<'a, S: Stack + Drop>(
     ensures mistake_changes_nothing { commanded line.entry ≡ None → session.new ≡ session.old }
     ensures tells_what_was_done { Tells (free_places S.Stack.places session.old) (known S.Pool session.old) (known S.Pool session.new) line.entry result }
 {
+    // (Tried as `map`: the proof did not close, for what a closure did to the session.)
     let Some(command) = line? else {
         return Ok(None);
     };

@@ -11,13 +11,8 @@ use crate::carry_out::carry;
 use crate::print::text_of;
 use crate::script::read;
 use commands::session::Session;
-use commands::slot::Slot;
-use pools::bench::Bench;
-use site_scripts::program::{Desk, Said, run};
+use site_scripts::program::{Desk, Said, Site, run};
 use std::alloc::{AllocError, Global};
-
-// A bench with up to four layers.
-type Site = Slot<Slot<Slot<Slot<Bench>>>>;
 
 #[derive(Drop)]
 struct SiteDesk {

@@ -7,7 +7,8 @@ use site_scripts::site_words::site_command;
 use site_scripts::words::words_of;
 use std::alloc::{AllocError, Global};
 
-// The command of a line; none where it has no word before a `#`.
+// The command of a line; none where it has no word before a `#`. (Reading of requests in scripts is alike: one for both
+// would be public and take the reader of a name as a closure, of which no public function asks anything.)
 pub fn read<'a>(
     heap: Global,
     line: &'a [u8],

@@ -19,16 +19,8 @@ pub fn house_text(
     let mut page = Page::new(heap, number);
     match (told.reply, house) {
         (Ok(_), Some(house)) => add_answer(&mut page, told.command, house)?,
-        (Ok(_), None) | (Err(HouseRefusal::NoHouse), _) => {
-            page.line("no house yet: begin with `house`")?
-        }
-        (Err(HouseRefusal::NoSite), _) => page.line("no site yet: begin with `site`")?,
-        (Err(HouseRefusal::NoSeats), _) => {
-            page.line("turned down: a house is one of one or more")?
-        }
-        (Err(HouseRefusal::NotHeld(reason)), _) => {
-            page.line(format_args!("turned down: {reason}"))?
-        }
+        (Ok(_), None) => page.line(HouseRefusal::NoHouse)?,
+        (Err(refusal), _) => page.line(refusal)?,
     }
     Ok(page.into_text())
 }

@@ -12,15 +12,10 @@ mod table_page;
 use crate::carry_out::HouseDesk;
 use crate::print::text_of;
 use commands::session::Session;
-use commands::slot::Slot;
 use houses::watch::Watch;
-use pools::bench::Bench;
 use scripts::script::read;
-use site_scripts::program::{Desk, Said, run};
+use site_scripts::program::{Desk, Said, Site, run};
 use std::alloc::{AllocError, Global};
-
-// A bench with up to four layers.
-type Site = Slot<Slot<Slot<Slot<Bench>>>>;
 
 impl Desk for HouseDesk<Site> {
     fn hear(&mut self, heap: Global, number: u64, line: &[u8]) -> Result<Said, AllocError> {

@@ -4,7 +4,7 @@ use houses::command::Ticks;
 use houses::house::House;
 use std::alloc::AllocError;
 use timelines::span::Span;
-use timelines::stretch::Standing;
+use timelines::stretch::SupplyView;
 
 pub fn add_table(page: &mut Page, ticks: Ticks, house: &House) -> Result<(), AllocError> {
     page.line("      tick      level supply      share     excess commitment")?;
@@ -20,12 +20,12 @@ fn add_tick(page: &mut Page, tick: u64, house: &House) -> Result<(), AllocError>
     let supplies = house.site().supplies();
     let snapshot = house.snapshot(tick);
     let level = snapshot.level;
-    for (supply, standing) in snapshot.supplies.iter().enumerate().take(supplies) {
-        let Standing {
+    for (supply, view) in snapshot.supplies.iter().enumerate().take(supplies) {
+        let SupplyView {
             share,
             excess,
             commitment,
-        } = *standing;
+        } = *view;
         let figures = format_args!("{supply:>6} {share:>10} {excess:>10} {commitment:>10}");
         if supply == 0 {
             page.line(format_args!("{tick:>10} {level:>10} {figures}"))?;

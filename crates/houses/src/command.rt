@@ -4,6 +4,8 @@ ghost use Rattle.houses.specs.declared.command.HouseRefusal.TheVariants as refus
 
 use crate::kind::Kind;
 use pools::amounts::Amounts;
+use std::error::Error;
+use std::fmt;
 use timelines::span::Span;
 use timelines::timeline::NotHeld;
 
@@ -53,5 +55,18 @@ impl From<NotHeld> for HouseRefusal {
         Self::NotHeld(reason)
     }
 }
+
+impl fmt::Display for HouseRefusal {
+    fn fmt<W: fmt::Write>(&self, f: &mut fmt::Formatter<W>) -> fmt::Result {
+        match self {
+            HouseRefusal::NoSite => write!(f, "no site yet: begin with `site`"),
+            HouseRefusal::NoSeats => write!(f, "turned down: a house is one of one or more"),
+            HouseRefusal::NoHouse => write!(f, "no house yet: begin with `house`"),
+            HouseRefusal::NotHeld(reason) => write!(f, "turned down: {reason}"),
+        }
+    }
+}
+
+impl Error for HouseRefusal {}
 
 pub type HouseReply = Result<HouseAnswer, HouseRefusal>;

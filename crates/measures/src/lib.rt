@@ -19,7 +19,8 @@ pub mod stateful;
 
 use crate::site::Site;
 
-// The greatest of what is given of the supplies that a site uses. Every level is one of these.
+// The greatest of what is given of the supplies that a site uses. Every level is one of these. (Tried as `map` and
+// `max` of the range: the proof did not close.)
 fn greatest<F: Fn(usize) -> u32>(site: &Site, of: F) -> u32
     requires asked_of_any_supply { F.IsAlwaysCallable of }
     ensures greatest_of_the_supplies_in_use { (g : ℕ → ℕ) → ((s y : ℕ) → F.post of s y → y ≡ g s) → result ≡ greatest site.now.supplies g }

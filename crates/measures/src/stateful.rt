@@ -74,15 +74,17 @@ impl DatedMeasure for Stateful {
 
     fn lowest(&self, account: &Account, one: u64, other: u64) -> u32 {
         greatest(&self.site, |supply| {
-            let standing = self.site.standing(account, one, supply);
-            standing.min(self.site.standing(account, other, supply))
+            let commitment = self.site.commitment(account, one, supply);
+            self.site.share(&account.holding, supply)
+                + commitment.min(self.site.commitment(account, other, supply))
         })
     }
 
     fn highest(&self, account: &Account, one: u64, other: u64) -> u32 {
         greatest(&self.site, |supply| {
-            let standing = self.site.standing(account, one, supply);
-            standing.max(self.site.standing(account, other, supply))
+            let commitment = self.site.commitment(account, one, supply);
+            self.site.share(&account.holding, supply)
+                + commitment.max(self.site.commitment(account, other, supply))
         })
     }
 }

@@ -53,7 +53,7 @@ impl Amounts {
 }
 
 // Puts the amounts of each supply together; none where that gives none in some supply.
-// (Supply by supply: `array::try_from_fn` wants an error in place of each none, which is no plainer.)
+// (Tried as `array::try_from_fn`, with an error for each none: the proof did not close.)
 fn zip_each<F: Fn(u32, u32) -> Option<u32>>(
     a: [u32; SUPPLIES],
     b: [u32; SUPPLIES],

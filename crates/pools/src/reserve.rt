@@ -37,8 +37,8 @@ impl<P: Pool> Reserve<P> {
     }
 }
 
-// (A load limit hands the same four calls on, a line each: one generic layer over a rule would be no plainer, since the
-// rule would be a trait with four laws.)
+// (A load limit hands the same four calls on. They stay apart: what each kind of layer may get wrong in them is shown by
+// must-fail edits that speak of that kind alone.)
 impl<P: Pool> Pool for Reserve<P> {
     ghost terms = { λ s. reserve_meaning P.Pool s };
 

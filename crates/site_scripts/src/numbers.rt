@@ -17,7 +17,7 @@ pub fn amounts<'a>(words: &[&'a str]) -> Result<Amounts, Mistake<'a>>
 
 // One to four numbers, for supplies 0, 1 and so on; those left out are 0. A case for each count is plainer than a loop,
 // which would test the count apart and need an invariant.
-pub(crate) fn one_to_four<'a>(words: &[&'a str]) -> Result<[u32; SUPPLIES], Mistake<'a>>
+pub fn one_to_four<'a>(words: &[&'a str]) -> Result<[u32; SUPPLIES], Mistake<'a>>
     ensures numbers_in_order { IfOk result (λ each. ((d : Bor (List ℕ)) → of_array each ≡ numbers d words.now)) }
 {
     match words {

@@ -1,6 +1,11 @@
 // A program that reads a script from standard input, and prints what is said of each line.
+use commands::slot::Slot;
+use pools::bench::Bench;
 use std::alloc::{AllocError, Global};
 use std::io::{BufRead, BufReader};
+
+// What both desks lay out: a bench with up to four layers.
+pub type Site = Slot<Slot<Slot<Slot<Bench>>>>;
 
 // What is printed of a line, nothing for a blank one; an error for a line that is not understood.
 pub type Said = Result<Option<String>, String>;

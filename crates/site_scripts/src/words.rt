@@ -12,6 +12,7 @@ pub fn words_of<'a>(
 ) -> Result<Result<Vec<&'a str>, Mistake<'a>>, AllocError>
     ensures mistaken_exactly_when_not_text { IfOk result (λ cut. MatchResult cut (λ words. IsUtf8 line.now) (λ mistake. (mistake ≡ Mistake.NotText) × ¬ (IsUtf8 line.now))) }
 {
+    // (Not `?`: of the two errors it carries the outer one.)
     let Ok(text) = std::str::from_utf8(line) else {
         return Ok(Err(Mistake::NotText));
     };

@@ -3,14 +3,14 @@ use Rattle.std.specs.Prelude.{◌≡◌, ℕ, ◌<◌, ◌≤◌, List, [], ◌�
 use Rattle.measures.specs.declared.account.Account.{Account}
 use Rattle.measures.specs.declared.site.Site.{Site}
 use Rattle.measures.specs.Sites.{share_in, part_due, excess_in, commitment_in}
-use Rattle.timelines.specs.declared.stretch.Standing.{Standing}
+use Rattle.timelines.specs.declared.stretch.SupplyView.{SupplyView}
 use Rattle.timelines.specs.declared.stretch.Snapshot.{Snapshot}
 use Rattle.timelines.specs.declared.stretch.LevelRange.{LevelRange}
 use Rattle.timelines.specs.declared.stretch.Column.{Column}
 
 -- the numbers of an account at a site and a tick, in one supply
-abbrev pub standing_in : Site → Account → ℕ → ℕ → Standing
-standing_in g a t s = record {
+abbrev pub view_in : Site → Account → ℕ → ℕ → SupplyView
+view_in g a t s = record {
   share = share_in g a.holding s;
   excess = excess_in g (part_due g a) a.holding s;
   commitment = commitment_in g (part_due g a) a t s;
@@ -18,7 +18,7 @@ standing_in g a t s = record {
 
 -- those numbers supply by supply, and its level by a measure
 pub record Shows (g : Site) (level : Account → ℕ → ℕ) (a : Account) (t : ℕ) (v : Snapshot) : Type 0 where
-  pub its_supplies : v.supplies ≡ map (standing_in g a t) (0 ∷ 1 ∷ 2 ∷ 3 ∷ [])
+  pub its_supplies : v.supplies ≡ map (view_in g a t) (0 ∷ 1 ∷ 2 ∷ 3 ∷ [])
   pub its_level : v.level ≡ level a t
 
 pub record Inside (level : ℕ) (r : LevelRange) : Type 0 where

@@ -20,9 +20,9 @@ pub struct InForce {
     pub until: u64,
 }
 
-// How a house stands in one supply.
+// What is shown of a house in one supply.
 #[derive(Clone, Copy, PartialEq, Eq, Debug)]
-pub struct Standing {
+pub struct SupplyView {
     pub share: u32,
     pub excess: u32,
     pub commitment: u32,
@@ -31,7 +31,7 @@ pub struct Standing {
 // How a house stands at some tick: in each supply, and by its level.
 #[derive(Clone, Copy, PartialEq, Eq, Debug)]
 pub struct Snapshot {
-    pub supplies: [Standing; SUPPLIES],
+    pub supplies: [SupplyView; SUPPLIES],
     pub level: u32,
 }
 

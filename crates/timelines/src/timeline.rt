@@ -9,7 +9,7 @@ ghost use Rattle.timelines.specs.Changes.{change_at, Judged};
 ghost use Rattle.timelines.specs.Views.{Shows, Inside, NoWider};
 
 use crate::span::Span;
-use crate::stretch::{InForce, LevelRange, Snapshot, Standing, Stretch};
+use crate::stretch::{InForce, LevelRange, Snapshot, Stretch, SupplyView};
 use measures::account::Account;
 use measures::clock::on_clock;
 use measures::dated_measure::DatedMeasure;
@@ -139,7 +139,7 @@ impl<M: Measure> Timeline<M> {
         let account = self.in_force(tick).account;
         let site = self.measure.site();
         Snapshot {
-            supplies: array::from_fn(|supply| Standing {
+            supplies: array::from_fn(|supply| SupplyView {
                 share: site.share(&account.holding, supply),
                 excess: site.excess(&account, supply),
                 commitment: site.commitment(&account, tick, supply),
@@ -158,7 +158,7 @@ impl<M: DatedMeasure> Timeline<M> {
         let start = self.in_force(span.first);
         let mut end = start.until.min(span.last);
         let mut range = self.over(&start.account, span.first, end);
-        // A turn begins where the account of the one before ends, which no range of ticks tells beforehand.
+        // (Each turn asks for the account anew: a walk over the later stretches would say again what `in_force` promises.)
         while end < span.last {
             let begin = end + 1;
             let next = self.in_force(begin);
