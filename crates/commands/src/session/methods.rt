@@ -45,7 +45,8 @@ impl<S: Stack + Drop> Session<S> {
                 }
             }
             Command::Take(demand) => {
-                self.site.as_mut().ok_or(Refusal::NoSite)?.take(demand)?;
+                let taken = self.site.as_mut().ok_or(Refusal::NoSite)?.take(demand);
+                taken?;
                 Ok(Answer::Taken)
             }
             Command::GiveBack(demand) => {

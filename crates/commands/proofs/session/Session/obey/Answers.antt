@@ -11,8 +11,8 @@ returns-in-Err-clause-question_or_refusal_changes_nothing g c left = same_sessio
 pub returns-in_err-ok_or-in-Take-clause-question_or_refusal_changes_nothing : goal.returns-in_err-ok_or-in-Take-clause-question_or_refusal_changes_nothing
 returns-in_err-ok_or-in-Take-clause-question_or_refusal_changes_nothing g c left = same_session _ _ (search rules)
 
-pub returns-in_err-take-in-Take-clause-question_or_refusal_changes_nothing : goal.returns-in_err-take-in-Take-clause-question_or_refusal_changes_nothing
-returns-in_err-take-in-Take-clause-question_or_refusal_changes_nothing g c left = same_session _ _ (search rules)
+pub returns-in_err-taken-in-Take-clause-question_or_refusal_changes_nothing : goal.returns-in_err-taken-in-Take-clause-question_or_refusal_changes_nothing
+returns-in_err-taken-in-Take-clause-question_or_refusal_changes_nothing g c left = same_session _ _ (search rules)
 
 pub returns-in_err-ok_or-in-GiveBack-clause-question_or_refusal_changes_nothing : goal.returns-in_err-ok_or-in-GiveBack-clause-question_or_refusal_changes_nothing
 returns-in_err-ok_or-in-GiveBack-clause-question_or_refusal_changes_nothing g c left = same_session _ _ (search rules)
