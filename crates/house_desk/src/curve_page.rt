@@ -12,7 +12,6 @@ const HEIGHT: u32 = 16;
 const TOP_LINE: u32 = HEIGHT - 1;
 
 // What is drawn, and the highest level of it, which has the top line.
-#[derive(Clone, Copy)]
 struct Drawing<'a> {
     columns: &'a [Column],
     top: u32,
@@ -37,11 +36,11 @@ pub fn add_curve(page: &mut Page, span: Span, house: &House) -> Result<(), Alloc
 
 impl Drawing<'_> {
     // The line in which a level is drawn.
-    fn line_of(self, level: u32) -> u32 {
+    fn line_of(&self, level: u32) -> u32 {
         (level as u64 * HEIGHT as u64 / (self.top as u64 + 1)).min(TOP_LINE as u64) as u32
     }
 
-    fn mark(self, range: LevelRange, line: u32) -> char {
+    fn mark(&self, range: LevelRange, line: u32) -> char {
         if (self.line_of(range.lowest)..=self.line_of(range.highest)).contains(&line) {
             '#'
         } else {
@@ -50,7 +49,7 @@ impl Drawing<'_> {
     }
 
     // No spaces stand at the end of a line.
-    fn add_line(self, page: &mut Page, line: u32) -> Result<(), AllocError> {
+    fn add_line(&self, page: &mut Page, line: u32) -> Result<(), AllocError> {
         let marks: String = self
             .columns
             .iter()
@@ -65,7 +64,7 @@ impl Drawing<'_> {
     }
 
     // The axis, and below it the first and the last tick.
-    fn add_axis(self, page: &mut Page) -> Result<(), AllocError> {
+    fn add_axis(&self, page: &mut Page) -> Result<(), AllocError> {
         let width = self.columns.len();
         page.line(format_args!("{:>10} +{:-<width$}", "", ""))?;
         let [first, .., last] = self.columns else {
