@@ -12,6 +12,7 @@ const HEIGHT: u32 = 16;
 const TOP_LINE: u32 = HEIGHT - 1;
 
 // What is drawn, and the highest level of it, which has the top line.
+#[derive(Drop)]
 struct Drawing<'a> {
     columns: &'a [Column],
     top: u32,
