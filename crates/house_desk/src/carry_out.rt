@@ -33,7 +33,7 @@ impl<S: Stack + Drop> HouseDesk<S> {
         ensures house_moves_by_its_command_alone { HouseAfterLine (known S.Pool self.old.session) (watched self.old.watch) (watched self.new.watch) line.entry result }
         ensures tells_what_was_done { Tells (free_places S.Stack.places self.old.session) (known S.Pool self.old.session) (known S.Pool self.new.session) (watched self.old.watch) line.entry result }
     {
-        // (Not `map`, as in the other desk: the proof would not see what a closure did to the site.)
+        // (Not `map`, which did not prove in the other desk: the proof does not see what a closure did to the site.)
         let Some(request) = line? else {
             return Ok(None);
         };

@@ -5,6 +5,7 @@ use pools::amounts::SUPPLIES;
 
 mod sums;
 
+// (The array's type says `one_for_each_supply` too; it stays, since a definition makes values of this type.)
 // Amounts of 64 bits: 256 tasks of the largest capacity, 16,777,216, take one more than 32 bits hold.
 #[derive(Clone, Copy, PartialEq, Eq, Debug)]
 pub struct Holding {

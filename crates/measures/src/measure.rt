@@ -13,6 +13,8 @@ use crate::account::Account;
 use crate::past_record::PastRecord;
 use crate::site::Site;
 
+// (Account and tick stay two parameters below: one account is asked about at many ticks.)
+
 // The largest level of any measure.
 pub const MAX_LEVEL: u32 = 8_388_608;
 

@@ -5,8 +5,8 @@ ghost use Rattle.measures.specs.Shares.{share_of, equal_part, excess_of};
 
 use std::num::NonZeroU32;
 
-// The whole of a supply. (That no share is above it is said of four functions: as a type of its own a share would be
-// taken apart again wherever it is added, mixed or shown.)
+// The whole of a supply. (That no share or commitment is above it is said of four functions: as a type of its own such a
+// number would be taken apart again wherever it is added, mixed or shown.)
 pub const WHOLE: u32 = 1_048_576;
 
 // The share of an amount in a capacity. More than the capacity counts as all of it, and no capacity has no shares.

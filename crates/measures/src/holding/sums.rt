@@ -41,7 +41,8 @@ impl Holding {
 }
 
 // Puts what is held and the demand of each supply together; none where that gives none in some supply.
-// (A twin of the one in pools: one for both would be public, and no public function may ask anything of a closure.)
+// (A twin of the one in pools, where `array::try_from_fn` was tried and did not prove: one for both would be public, and
+// no public function may ask anything of a closure.)
 fn zip_each<F: Fn(u64, u32) -> Option<u64>>(
     held: [u64; SUPPLIES],
     demand: [u32; SUPPLIES],
