@@ -72,8 +72,8 @@ impl DatedMeasure for Stateful {
 
     ghost highest_stays_after_the_last_tick = { λ m. highest_clock m.site };
 
-    // (`highest` differs in the choice alone: as a closure of one function it would need a contract of its own, which is no
-    // plainer.)
+    // (`highest` differs in the choice alone: as a closure of one function it would need a contract of its own, which is
+    // no plainer.)
     fn lowest(&self, account: &Account, one: u64, other: u64) -> u32 {
         greatest(&self.site, |supply| {
             let commitment = self.site.commitment(account, one, supply);

@@ -35,7 +35,7 @@ impl<M: DatedMeasure> Timeline<M> {
             last: on_clock(span.last),
         };
         let width = span.column_width();
-        // (A `for` that pushes: what is promised is an invariant over the columns so far, for which a chain has no place.)
+        // (A `for` that pushes: the promise is an invariant over the columns so far, which no chain has a place for.)
         let mut columns = Vec::new(heap);
         for begin in (span.first..=span.last).step_by(width as usize) {
             let ticks = Span {

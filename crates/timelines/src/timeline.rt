@@ -158,7 +158,7 @@ impl<M: DatedMeasure> Timeline<M> {
         let start = self.in_force(span.first);
         let mut end = start.until.min(span.last);
         let mut range = self.over(&start.account, span.first, end);
-        // (Each turn asks for the account anew: a walk over the later stretches would say again what `in_force` promises.)
+        // (Each turn asks for the account anew: a walk over later stretches would say again what `in_force` promises.)
         while end < span.last {
             let begin = end + 1;
             let next = self.in_force(begin);
