@@ -1,5 +1,6 @@
 // One line of a script, read as a command.
-ghost use Rattle.site_scripts.specs.Words.{Reads, SaysSite, name_of_site};
+ghost use Rattle.std.specs.Prelude.{IfOk};
+ghost use Rattle.site_scripts.specs.Words.{Asks, Reads, SaysSite, name_of_site};
 
 use commands::command::Command;
 use site_scripts::mistake::Mistake;
@@ -21,6 +22,13 @@ fn parse<'a>(words: &[&'a str]) -> Result<Option<Command>, Mistake<'a>>
 {
     match words {
         [] => Ok(None),
-        [name, rest @ ..] => Ok(Some(site_command(name, rest)?)),
+        [name, rest @ ..] => Ok(Some(command(name, rest)?)),
     }
+}
+
+// The command with this name, from the words after it: at this desk, one about the site.
+fn command<'a>(name: &'a str, rest: &[&'a str]) -> Result<Command, Mistake<'a>>
+    ensures command_is_what_the_words_say { IfOk result (Asks name_of_site SaysSite name.now rest.now) }
+{
+    site_command(name, rest)
 }

@@ -19,10 +19,25 @@ fn says(
     text: &str,
 ) -> Result<(), Fail> {
     let outcome = carry(session, read(heap, line)?);
-    let Some(said) = text_of(heap, 7, outcome)?.unwrap_or_else(Some) else {
-        return Err(Fail::new("nothing was said"));
+    let Ok(Some(said)) = text_of(heap, 7, outcome)? else {
+        return Err(Fail::new("nothing was said, or that of a mistake"));
     };
     assert_eq!(rt; said.as_str(), text);
+    Ok(())
+}
+
+fn mistakes(
+    rt: &impl Abort,
+    heap: Global,
+    session: &mut Session<SmallSite>,
+    line: &[u8],
+    text: &str,
+) -> Result<(), Fail> {
+    let outcome = carry(session, read(heap, line)?);
+    let Err(told) = text_of(heap, 7, outcome)? else {
+        return Err(Fail::new("no mistake was told"));
+    };
+    assert_eq!(rt; told.as_str(), text);
     Ok(())
 }
 
@@ -38,7 +53,7 @@ fn each_mistake_is_told_and_changes_nothing(rt: HostRuntime) -> Result<(), Fail>
         b"take 1 4",
         "7: taken; in use 1 4 0 0",
     )?;
-    let mistakes: [(&[u8], &str); 13] = [
+    let mistaken: [(&[u8], &str); 13] = [
         (
             b"tkae 1",
             "7: not understood: there is no command \"tkae\"; there are site, reserve, limit, take, give, fits and used",
@@ -86,8 +101,8 @@ fn each_mistake_is_told_and_changes_nothing(rt: HostRuntime) -> Result<(), Fail>
             "7: not understood: the line is not UTF-8 text",
         ),
     ];
-    for (line, text) in mistakes {
-        says(&rt, heap, &mut session, line, text)?;
+    for (line, text) in mistaken {
+        mistakes(&rt, heap, &mut session, line, text)?;
     }
     says(
         &rt,

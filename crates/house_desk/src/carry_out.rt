@@ -1,5 +1,5 @@
 // A line of a script, carried out.
-ghost use Rattle.std.specs.Prelude.{◌≡◌, None};
+ghost use Rattle.std.specs.Prelude.{◌≡◌, None, Ok, IfErr};
 ghost use Rattle.commands.specs.Sessions.{known, free_places};
 ghost use Rattle.houses.specs.Watches.{watched};
 ghost use Rattle.site_scripts.specs.Lines.{known_after_line};
@@ -30,6 +30,8 @@ impl<S: Stack + Drop> HouseDesk<S> {
     ) -> Outcome<'a>
         ensures moves_by_its_command_alone { known S.Pool self.new.session ≡ known_after_line (free_places S.Stack.places self.old.session) (known S.Pool self.old.session) (site_command line.entry) }
         ensures mistake_or_house_leaves_the_site { site_command line.entry ≡ None → self.new.session ≡ self.old.session }
+        ensures mistake_changes_nothing { IfErr line.entry (λ mistake. self.new ≡ self.old) }
+        ensures blank_line_changes_nothing { line.entry ≡ Ok None → self.new ≡ self.old }
         ensures house_moves_by_its_command_alone { HouseAfterLine (known S.Pool self.old.session) (watched self.old.watch) (watched self.new.watch) line.entry result }
         ensures tells_what_was_done { Tells (free_places S.Stack.places self.old.session) (known S.Pool self.old.session) (known S.Pool self.new.session) (watched self.old.watch) line.entry result }
     {

@@ -1,4 +1,7 @@
 // What the desk prints.
+ghost use Rattle.std.specs.Prelude.{IfOk};
+ghost use Rattle.site_scripts.specs.Lines.{SaidOf};
+
 use crate::house_page::house_text;
 use crate::outcome::{Outcome, Told};
 use houses::house::House;
@@ -11,7 +14,9 @@ pub fn text_of(
     number: u64,
     outcome: Outcome<'_>,
     house: Option<&House>,
-) -> Result<Said, AllocError> {
+) -> Result<Said, AllocError>
+    ensures error_for_a_mistake_and_nothing_for_a_blank_line { IfOk result (SaidOf outcome.entry) }
+{
     Ok(match outcome {
         Ok(None) => Ok(None),
         Ok(Some(Told::Site(told))) => Ok(Some(format!(in heap; "{number}: {told}")?)),

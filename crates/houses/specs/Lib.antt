@@ -1,3 +1,4 @@
 pub mod Houses
 pub mod Kinds
+pub mod Refusals
 pub mod Watches

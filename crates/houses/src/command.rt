@@ -1,6 +1,7 @@
 // What can be asked about a house, and what is answered.
-ghost use Rattle.std.specs.Prelude.{◌≡◌};
+ghost use Rattle.std.specs.Prelude.{◌≡◌, Some};
 ghost use Rattle.houses.specs.declared.command.HouseRefusal.TheVariants as refusal;
+ghost use Rattle.houses.specs.Refusals.{refusal_words};
 
 use crate::kind::Kind;
 use pools::amounts::Amounts;
@@ -57,6 +58,8 @@ impl From<NotHeld> for HouseRefusal {
 }
 
 impl fmt::Display for HouseRefusal {
+    ghost output = { λ refusal. Some (refusal_words refusal) };
+
     fn fmt<W: fmt::Write>(&self, f: &mut fmt::Formatter<W>) -> fmt::Result {
         match self {
             HouseRefusal::NoSite => write!(f, "no site yet: begin with `site`"),

@@ -1,5 +1,5 @@
 // The measures that can be chosen.
-ghost use Rattle.std.specs.Prelude.{Some};
+ghost use Rattle.std.specs.Prelude.{Some, codes};
 ghost use Rattle.houses.specs.Kinds.{kind_word, Names};
 
 use std::error::Error;
@@ -42,6 +42,8 @@ impl fmt::Display for Kind {
 }
 
 impl fmt::Display for UnknownKind {
+    ghost output = { λ _. Some (codes "no measure has this name") };
+
     fn fmt<W: fmt::Write>(&self, f: &mut fmt::Formatter<W>) -> fmt::Result {
         write!(f, "no measure has this name")
     }

@@ -1,5 +1,5 @@
 -- What a command of a line does to the site, and what is told of it.
-use Rattle.std.specs.Prelude.{◌≡◌, ℕ, Some, None, Option}
+use Rattle.std.specs.Prelude.{◌≡◌, ℕ, Some, None, Ok, Err, Option, Result}
 use Rattle.pools.specs.Totals.{total}
 use Rattle.commands.specs.declared.command.Command.{Command}
 use Rattle.commands.specs.SiteStates.{SiteState}
@@ -17,3 +17,11 @@ pub record TellsCommand (places : ℕ) (before after : Option SiteState) (comman
   pub its_reply : t.reply ≡ reply_to places before command
   pub used_after : total t.status.used ≡ used_now after
   pub capacity_after : total t.status.capacity ≡ capacity_now after
+
+-- what is said of a line is of the kind of its outcome: nothing of a blank line, a text where a command was carried out,
+-- and an error where the line was not understood
+abbrev pub SaidOf : {A E S : Type 0} → Result (Option A) E → Result (Option S) S → Type 0
+SaidOf (Ok None) (Ok None) = Unit {0}
+SaidOf (Ok (Some told)) (Ok (Some text)) = Unit {0}
+SaidOf (Err mistake) (Err text) = Unit {0}
+SaidOf _ _ = ⊥

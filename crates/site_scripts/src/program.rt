@@ -1,4 +1,6 @@
 // A program that reads a script from standard input, and prints what is said of each line.
+ghost use Rattle.std.specs.Prelude.{◌≡◌, None, Ok, IfOk, IfErr};
+
 use commands::slot::Slot;
 use pools::bench::Bench;
 use std::alloc::{AllocError, Global};
@@ -14,7 +16,9 @@ pub type Said = Result<Option<String>, String>;
 pub trait Desk {
     // Carries out the line with this number, and tells of it. (The allocator and the number go on to what prints; only a
     // desk of pages makes them one.)
-    fn hear(&mut self, heap: Global, number: u64, line: &[u8]) -> Result<Said, AllocError>;
+    fn hear(&mut self, heap: Global, number: u64, line: &[u8]) -> Result<Said, AllocError>
+        ensures line_not_understood_changes_nothing { IfOk result (λ said. IfErr said (λ text. self.new ≡ self.old)) }
+        ensures blank_line_changes_nothing { IfOk result (λ said. said ≡ Ok None → self.new ≡ self.old) };
 }
 
 pub fn run<D: Desk + Drop>(rt: &HostRuntime, mut desk: D) -> anyhow::Result<()> {

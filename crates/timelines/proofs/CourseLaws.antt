@@ -1,9 +1,9 @@
 -- A course, cut at a tick into the stretches that have begun and those that have not.
-use Rattle.std.proofs.Common.{◌≡◌, Bool, true, false, if◌then◌else◌, ℕ, ◌+◌, ◌-◌, ◌<◌, ◌≤◌, leb, List, [], ◌∷◌, ◌++◌, length, sym, refl, ap, subst, ◌∙◌, arith}
-use Rattle.std.specs.List.{All, slice_get, SameBelow, TailFrom}
+use Rattle.std.proofs.Common.{append-nil, ◌≡◌, Bool, true, false, if◌then◌else◌, ℕ, ◌+◌, ◌-◌, ◌<◌, ◌≤◌, leb, List, [], ◌∷◌, ◌++◌, length, slice_index_or, ⊎_elim, sym, refl, ap, subst, ◌∙◌, arith}
+use Rattle.std.specs.List.{All, AllWithin, slice_get, SameBelow, TailFrom}
 use Rattle.std.specs.List.Sorted.{IsNonDecreasingBy, IsPartitionPoint}
 use Rattle.std.specs.Option.{option_map_or}
-use Rattle.std.proofs.lemmas.Bool.{cond-true, cond-false, le-leb, lt-leb, leb-true, leb-false}
+use Rattle.std.proofs.lemmas.Bool.{cases_Bool, cond-true, cond-false, le-leb, lt-leb, leb-true, leb-false}
 use Rattle.std.proofs.lemmas.List.Elements.{All-tail}
 use Rattle.std.proofs.lemmas.List.Sorted.{IsNonDecreasingBy-push}
 use Rattle.std.proofs.lemmas.Option.{slice_get-get_or}
@@ -34,14 +34,40 @@ unfolding change_from
 latest_change b [] = refl
 latest_change b (x ∷ xs) = latest_change x.from xs
 
+-- so it is what stands at the last place
+last_tick : (xs : List Stretch) (d : Stretch) → 0 < length xs → (slice_index_or xs (length xs - 1) d).from ≡ last_change xs
+last_tick xs d some =
+    let item = slice_get-get_or xs (length xs - 1) d (omega arith) in
+    sym (ap (λ o. option_map_or (λ (s : Stretch). s.from) o 0) item) ∙ latest_read (λ s. s.from) 0 xs ∙ latest_change 0 xs
+
 -- ticks that never fall: they still do not with one more stretch that is not before the last change
 pub change_more : (xs ys : List Stretch) (y : Stretch) (pushed : Bool) → IsNonDecreasingBy (λ (s : Stretch). s.from) xs → last_change xs ≤ y.from → ys ≡ (if pushed then xs ++ y ∷ [] else xs) → IsNonDecreasingBy (λ (s : Stretch). s.from) ys
 change_more xs ys y false sorted late is = subst (IsNonDecreasingBy (λ (s : Stretch). s.from)) (sym is) sorted
 change_more xs ys y true sorted late is =
-    subst (IsNonDecreasingBy (λ (s : Stretch). s.from)) (sym is) (IsNonDecreasingBy-push (λ (s : Stretch). s.from) xs y sorted (λ d some.
-    let item = slice_get-get_or xs (length xs - 1) d (omega arith) in
-    let last = sym (ap (λ o. option_map_or (λ (s : Stretch). s.from) o 0) item) ∙ latest_read (λ s. s.from) 0 xs ∙ latest_change 0 xs in
-    omega arith))
+    subst (IsNonDecreasingBy (λ (s : Stretch). s.from)) (sym is) (IsNonDecreasingBy-push (λ (s : Stretch). s.from) xs y sorted (λ d some. let last = last_tick xs d some in omega arith))
+
+-- by a tick that is not before the last change all have begun
+all_begun : (xs : List Stretch) (t : ℕ) → IsNonDecreasingBy (λ (s : Stretch). s.from) xs → last_change xs ≤ t → All (λ (s : Stretch). s.from ≤ t) xs
+all_begun xs t sorted late k d within =
+    let last = last_tick xs d (omega arith) in
+    let rises = sorted k (length xs - 1) d (omega arith) (omega arith) in
+    omega arith
+
+-- stretches that have begun, some that are cut at their partition point, and those that have not: so all are cut
+pub point_of_all : (xs near ys : List Stretch) (b r i t : ℕ) → SameBelow xs near r → TailFrom near ys b → length near ≡ r → length ys + b ≡ r → AllWithin (λ (s : Stretch). s.from ≤ t) xs 0 b → AllWithin (λ (s : Stretch). t < s.from) xs r (length xs) → IsPartitionPoint (λ (s : Stretch). leb s.from t ≡ true) (λ (s : Stretch). leb s.from t ≡ false) ys i → i ≤ length ys → IsPartitionPoint (λ (s : Stretch). leb s.from t ≡ true) (λ (s : Stretch). leb s.from t ≡ false) xs (b + i)
+point_of_all xs near ys b r i t front back short long begun later point within =
+    let read : (k : ℕ) (d : Stretch) → b ≤ k → k < r → leb (slice_index_or ys (k - b) d).from t ≡ leb (slice_index_or xs k d).from t = (λ k d low high.
+    let at : b + (k - b) ≡ k = omega arith in
+    ap (λ (s : Stretch). leb s.from t) (back (k - b) d ∙ ap (λ n. slice_index_or near n d) at ∙ front k d high)) in (
+      λ k d low high. ⊎_elim
+          (λ test. let early = leb-true (k + 1) b test in le-leb (slice_index_or xs k d).from t (begun k d low (omega arith)))
+          (λ test. let late = leb-false (k + 1) b test in sym (read k d (omega arith) (omega arith)) ∙ point.0 (k - b) d (omega arith) (omega arith))
+          (cases_Bool (leb (k + 1) b)),
+      λ k d low high. ⊎_elim
+          (λ test. let early = leb-true (k + 1) r test in sym (read k d (omega arith) (omega arith)) ∙ point.1 (k - b) d (omega arith) (omega arith))
+          (λ test. let late = leb-false (k + 1) r test in lt-leb (slice_index_or xs k d).from t (later k d (omega arith) high))
+          (cases_Bool (leb (k + 1) r)),
+    )
 
 -- a course whose ticks never fall, cut at the partition point
 pub cut_at : (xs ys zs : List Stretch) (i t : ℕ) → IsPartitionPoint (λ (s : Stretch). leb s.from t ≡ true) (λ (s : Stretch). leb s.from t ≡ false) xs i → (xs ≡ ys ++ zs) × SameBelow xs ys i × TailFrom xs zs i → length ys ≡ i → length zs + i ≡ length xs → IsCut xs ys zs t
@@ -87,3 +113,9 @@ module _ (t m : ℕ) where
       ∙ account_after new_account ys zs k (λ j d short. let begun = cut.begun j d short in omega arith)
       ∙ account_before _ zs k cut.not_begun within
       ∙ sym (latest_read (λ (s : Stretch). s.account) new_account ys)
+
+-- from the last change on, what it changed to is in force
+pub account_last : (xs : List Stretch) (t : ℕ) → IsNonDecreasingBy (λ (s : Stretch). s.from) xs → last_change xs ≤ t → account_at xs t ≡ option_map_or (λ (s : Stretch). s.account) (slice_get xs (length xs - 1)) new_account
+account_last xs t sorted late =
+    let cut : IsCut xs xs [] t = record { whole = sym (append-nil xs); begun = all_begun xs t sorted late; not_begun = λ j d short. omega arith } in
+    account_cut t t xs xs [] cut t (omega arith) (omega arith)

@@ -1,5 +1,6 @@
 -- A change of what a house holds.
-use Rattle.std.specs.Prelude.{◌≡◌, ℕ, ◌<◌, ◌≤◌, List, Ok, Err, Result}
+use Rattle.std.specs.Prelude.{◌≡◌, ℕ, ◌<◌, ◌≤◌, List, ◌++◌, codes, Ok, Err, Result}
+use Rattle.std.specs.Fmt.{decimal}
 use Rattle.measures.specs.declared.account.Account.{Account}
 use Rattle.measures.specs.declared.holding.Holding.{Holding}
 use Rattle.measures.specs.declared.past_record.PastRecord.{PastRecord}
@@ -21,3 +22,8 @@ abbrev pub Judged : ℕ → ℕ → Result (Unit {0}) NotHeld → Type 0
 Judged last t (Ok _) = last ≤ t
 Judged last t (Err (Earlier n)) = (t < last) × (n ≡ last)
 Judged last t (Err NoMemory) = last ≤ t
+
+-- in words
+abbrev pub not_held_words : NotHeld → List ℕ
+not_held_words (Earlier last) = codes "the last change is at tick " ++ decimal last
+not_held_words NoMemory = codes "no memory is left"

@@ -1,11 +1,12 @@
 // A house that starts with nothing at tick 0, and whose holding changes at given ticks.
-ghost use Rattle.std.specs.Prelude.{◌≡◌, ℕ, ◌≤◌, [], ◌∷◌, ◌++◌, is_ok, if◌then◌else◌};
+ghost use Rattle.std.specs.Prelude.{◌≡◌, ℕ, ◌<◌, ◌≤◌, [], ◌∷◌, ◌++◌, length, Some, is_ok, if◌then◌else◌};
+ghost use Rattle.std.specs.List.{AllWithin};
 ghost use Rattle.std.specs.List.Sorted.{IsNonDecreasingBy};
 ghost use Rattle.timelines.specs.declared.stretch.Stretch.{Stretch};
 ghost use Rattle.timelines.specs.declared.timeline.NotHeld.TheVariants.{NoMemory};
 ghost use Rattle.measures.specs.Clock.{on_clock, Between};
 ghost use Rattle.timelines.specs.Courses.{new_account, account_at, last_change, IsCut};
-ghost use Rattle.timelines.specs.Changes.{change_at, Judged};
+ghost use Rattle.timelines.specs.Changes.{change_at, Judged, not_held_words};
 ghost use Rattle.timelines.specs.Views.{Shows, Inside, NoWider};
 
 use crate::span::Span;
@@ -47,6 +48,8 @@ pub enum NotHeld {
 }
 
 impl fmt::Display for NotHeld {
+    ghost output = { λ reason. Some (not_held_words reason) };
+
     fn fmt<W: fmt::Write>(&self, f: &mut fmt::Formatter<W>) -> fmt::Result {
         match self {
             NotHeld::Earlier(last) => write!(f, "the last change is at tick {last}"),
@@ -100,7 +103,11 @@ impl<M: Measure> Timeline<M> {
         if from < last {
             return Err(NotHeld::Earlier(last));
         }
-        let before = self.in_force(from).account;
+        // All changes so far have begun by then, so the last one is in force.
+        let before = self
+            .stretches
+            .last()
+            .map_or(new_account(), |stretch| stretch.account);
         let account = Account {
             past: self.measure.bring(&before, from),
             holding,
@@ -129,7 +136,30 @@ impl<M: Measure> Timeline<M> {
         ensures begun_and_not_begun { IsCut self.now.stretches.items result.0.now result.1.now tick }
     {
         let stretches = self.stretches.as_slice();
-        stretches.split_at(stretches.partition_point(|stretch| stretch.from <= tick))
+        let (begun, reach) = self.bounds_of_cut(tick);
+        if begun == reach {
+            return stretches.split_at(begun);
+        }
+        let (near, _) = stretches.split_at(reach);
+        let (_, between) = near.split_at(begun);
+        stretches.split_at(begun + between.partition_point(|stretch| stretch.from <= tick))
+    }
+
+    // So many stretches have begun by a tick, and those after so many have not. It looks twice as far each time: where
+    // few have begun, few are looked at, however many there are. (A loop, since no chain goes so.)
+    fn bounds_of_cut(&self, tick: u64) -> (usize, usize)
+        ensures in_their_order { (result.0 ≤ result.1) × (result.1 ≤ length self.now.stretches.items) }
+        ensures first_ones_have_begun { AllWithin (λ (s : Stretch). s.from ≤ tick) self.now.stretches.items 0 result.0 }
+        ensures later_ones_have_not_begun { AllWithin (λ (s : Stretch). tick < s.from) self.now.stretches.items result.1 (length self.now.stretches.items) }
+    {
+        let stretches = self.stretches.as_slice();
+        let mut begun = 0;
+        let mut reach = 0;
+        while reach < stretches.len() && stretches[reach].from <= tick {
+            begun = reach + 1;
+            reach = 2 * begun;
+        }
+        (begun, reach.min(stretches.len()))
     }
 
     // Share, excess, commitment and level at a tick.
