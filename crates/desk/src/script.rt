@@ -26,7 +26,8 @@ fn parse<'a>(words: &[&'a str]) -> Result<Option<Command>, Mistake<'a>>
     }
 }
 
-// The command with this name, from the words after it: at this desk, one about the site.
+// The command with this name, from the words after it: at this desk, one about the site. (Apart, so that a must-fail
+// edit can mistake one name alone.)
 fn command<'a>(name: &'a str, rest: &[&'a str]) -> Result<Command, Mistake<'a>>
     ensures command_is_what_the_words_say { IfOk result (Asks name_of_site SaysSite name.now rest.now) }
 {

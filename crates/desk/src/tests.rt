@@ -20,7 +20,7 @@ fn says(
 ) -> Result<(), Fail> {
     let outcome = carry(session, read(heap, line)?);
     let Ok(Some(said)) = text_of(heap, 7, outcome)? else {
-        return Err(Fail::new("nothing was said, or that of a mistake"));
+        return Err(Fail::new("nothing was said, or a mistake was told"));
     };
     assert_eq!(rt; said.as_str(), text);
     Ok(())

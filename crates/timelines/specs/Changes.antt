@@ -23,7 +23,7 @@ Judged last t (Ok _) = last ≤ t
 Judged last t (Err (Earlier n)) = (t < last) × (n ≡ last)
 Judged last t (Err NoMemory) = last ≤ t
 
--- in words
+-- why a change was not noted, in words
 abbrev pub not_held_words : NotHeld → List ℕ
 not_held_words (Earlier last) = codes "the last change is at tick " ++ decimal last
 not_held_words NoMemory = codes "no memory is left"

@@ -145,8 +145,9 @@ impl<M: Measure> Timeline<M> {
         stretches.split_at(begun + between.partition_point(|stretch| stretch.from <= tick))
     }
 
-    // So many stretches have begun by a tick, and those after so many have not. It looks twice as far each time: where
-    // few have begun, few are looked at, however many there are. (A loop, since no chain goes so.)
+    // As many stretches as the first number have begun by a tick, and those from the second number on have not. It looks
+    // twice as far each time: where few have begun, few are looked at, however many there are. (A loop: a chain would
+    // have to hand on both numbers.)
     fn bounds_of_cut(&self, tick: u64) -> (usize, usize)
         ensures in_their_order { (result.0 ≤ result.1) × (result.1 ≤ length self.now.stretches.items) }
         ensures first_ones_have_begun { AllWithin (λ (s : Stretch). s.from ≤ tick) self.now.stretches.items 0 result.0 }
